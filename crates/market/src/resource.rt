@@ -1,0 +1,46 @@
+// A resource in the hour: its QSE, its class and its figures.
+ghost use mathlib.Core.Path.{_≡_};
+ghost use Rattle.market.specs.Answers.{plainly};
+ghost use Rattle.market.specs.Bare.{resourceRow};
+ghost use Rattle.market.specs.Limits.{resourceOf};
+use crate::class::Class;
+use crate::figures::BareFigures;
+use crate::figures::Figures;
+use crate::number::QseNumber;
+use crate::number::ResourceNumber;
+use crate::refusal::Refusal;
+
+// The row of a resource as bare figures: what lies in a lent slot.
+#[derive(Clone, Copy)]
+pub struct ResourceRow {
+    pub number: u32,
+    pub qse: u32,
+    pub class: Class,
+    pub figures: BareFigures,
+}
+
+// The resource with every figure within its limits.
+#[derive(Clone, Copy)]
+pub struct Resource {
+    pub number: ResourceNumber,
+    pub qse: QseNumber,
+    pub class: Class,
+    pub figures: Figures,
+}
+
+impl Resource {
+    // The resource of this row: both numbers are looked at first, then its figures.
+    pub fn check(row: &ResourceRow) -> Result<Resource, Refusal>
+        ensures answer { λ r. ⌜ plainly resourceRow r ≡ resourceOf (now (row .entry)) ⌝ }
+    {
+        let number = ResourceNumber::check(row.number)?;
+        let qse = QseNumber::check(row.qse)?;
+        let figures = Figures::check(&row.figures)?;
+        Ok(Resource {
+            number,
+            qse,
+            class: row.class,
+            figures,
+        })
+    }
+}

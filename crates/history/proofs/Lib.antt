@@ -1,0 +1,10 @@
+pub mod Lists
+pub mod Living
+pub mod Words
+pub mod Totals
+pub mod Issues
+pub mod Reissue
+pub mod Balance
+pub mod Orphans
+pub mod Distinction
+pub mod Reading

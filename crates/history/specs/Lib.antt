@@ -1,0 +1,4 @@
+pub mod Settlement
+pub mod Calls
+pub mod Histories
+pub mod Law

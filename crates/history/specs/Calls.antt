@@ -88,7 +88,7 @@ withLoad load a = record { row = record { number = a .row .number; load = load; 
 abbrev pub withQuantities : Service → BareQuantities → Account → Account
 withQuantities s ten a = record { row = record { number = a .row .number; load = a .row .load; quantities = withService s ten (a .row .quantities) }; settled = a .settled; billed = a .billed; line = a .line }
 
--- the accounts after an enrolment: a known QSE keeps its own
+-- the account of a QSE after its enrolment: a known QSE keeps its own
 abbrev pub enrolled : ℕ → ℕ → Option Account → Account
 enrolled qse load None = newAccount qse load
 enrolled qse load (Some a) = withLoad load a

@@ -35,7 +35,7 @@ impl<'a> Ledger<'a> {
 
     // Enters a meter whose reading has four digits, and says whether it did.
     pub fn enter(&mut self, meter: Meter) -> bool
-        ensures answer { λ r. ⌜ r ≡ (meterSound meter && fits meterNumber (capacity (now (self .entry) .meters)) meter (rows (now (self .entry) .meters))) ⌝ }
+        ensures answer { λ r. ⌜ r ≡ (meterSound meter && fits meterNumber (capacity (now (self .entry) .meters)) (meter .number) (rows (now (self .entry) .meters))) ⌝ }
         ensures after { λ r. ⌜ rows (now (self .exit) .meters) ≡ cond r (put meterNumber meter (rows (now (self .entry) .meters))) (rows (now (self .entry) .meters)) ⌝ }
         ensures stations { λ _. ⌜ rows (now (self .exit) .stations) ≡ rows (now (self .entry) .stations) ⌝ }
     {
@@ -47,7 +47,7 @@ impl<'a> Ledger<'a> {
 
     // Enters a meter, and then reads the meter of its number: itself, unless it was refused.
     pub fn enter_and_read(&mut self, meter: Meter) -> Option<Meter>
-        ensures answer { λ r. ⌜ r ≡ cond (meterSound meter && fits meterNumber (capacity (now (self .entry) .meters)) meter (rows (now (self .entry) .meters))) (Some meter) (found meterNumber (meter .number) (rows (now (self .entry) .meters))) ⌝ }
+        ensures answer { λ r. ⌜ r ≡ cond (meterSound meter && fits meterNumber (capacity (now (self .entry) .meters)) (meter .number) (rows (now (self .entry) .meters))) (Some meter) (found meterNumber (meter .number) (rows (now (self .entry) .meters))) ⌝ }
     {
         let _ = self.enter(meter);
         self.meter(meter.number)

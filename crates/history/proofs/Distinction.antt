@@ -37,7 +37,7 @@ use Rattle.history.specs.declared.account.Account.{Account}
 use Rattle.history.specs.Settlement.{byService, sumZ, countsFor, countedSum, chargeFor, chargesFor, loads, mapFrom, settledAccount, settledAccounts}
 use Rattle.history.specs.Calls.{State, Line, Call, enrol, quantities, enter, strike, prices, interval, draft, issue, drop, Answer, refused, done, stated, qseOf, settledUnder}
 use Rattle.history.specs.Histories.{History, Lived, loadOf, quantitiesOf, rows, pricesOf, chargeAt, sameFigures, isOne, occurrences, lastIssue, lastDraft, billedOf, redraft, reissue}
-use Rattle.history.specs.Law.{PutUnder, SameQses, SamePrices, RowsMatch, SameBills, DistinctionLaw}
+use Rattle.history.specs.Law.{PutUnder, SameQses, SamePrices, RowsMatch, SameBills, DistinctionLaw, LawAt}
 use Rattle.history.proofs.Lists.{countBy-sumZ, sumZ-cong, same-counts-same-sums, rising-same-lookups}
 use Rattle.history.proofs.Living.{Kept, lived-keep}
 use Rattle.history.proofs.Words.{rowIn, quantitiesIn, load-agrees, quantities-agree, prices-agree, is-some}
@@ -45,7 +45,7 @@ use Rattle.history.proofs.Issues.{DraftOf, draft-behind, rows-agree, pairIn, b
 use Rattle.history.proofs.Totals.{of-byService}
 use Rattle.history.proofs.Reissue.{every-edition}
 use Rattle.history.proofs.Orphans.{under, no-orphans}
-use Rattle.history.proofs.Balance.{charge-agrees, loaded-found, row-settled}
+use Rattle.history.proofs.Balance.{charge-agrees, loaded-found, row-settled, balance-law}
 
 -- an edition put under the last issue changes what lies behind it, and nothing older
 reissue-last : (e : Meaning) (lines : List Line) (h b : History) → lastIssue h ≡ Some b → lastIssue (reissue e lines h) ≡ Some (redraft e b)
@@ -337,4 +337,8 @@ same-bills-match h k s t b d l m i j people bills =
 
 -- rows match exactly where all bills are the same
 pub distinction-law : DistinctionLaw
-distinction-law h k s t b d l m i j people paid = (λ match. match-same-bills h k s t b d l m i j people paid match, λ bills. same-bills-match h k s t b d l m i j people bills)
+distinction-law h k s t l m b d i j people paid = (λ match. match-same-bills h k s t b d l m i j people paid match, λ bills. same-bills-match h k s t b d l m i j people bills)
+
+-- the law of every lived history
+pub law-at : {h : History} {s : State} → Lived h s → LawAt h
+law-at {h} {s} l = record { balance = balance-law h s l; distinction = λ k t m. distinction-law h k s t l m; editions = every-edition h s l }

@@ -37,8 +37,8 @@ use Rattle.history.specs.Histories.{History, Lived, opening, then, taken, rows
 use Rattle.history.proofs.Lists.{sumZ-others, sumZ-put-others, sumZ-removed-others, sumZ-found, valueZ, sumZ-map, sumZ-cong, sumZ-put-new, sumZ-put-same}
 use Rattle.history.proofs.Reissue.{drafted-before-issue}
 use Rattle.history.proofs.Totals.{billedCharges, billedCredits, settledCharges, settledCredits, settled-billed-charges, settled-billed-credits, billed-charges, billed-credits, statement-charges, statement-credits, of-byService}
-use Rattle.history.proofs.Living.{Kept, lived-keep, by-refusal}
-use Rattle.history.proofs.Words.{by-answer, granted-taken, through-read, enrolled-number, of-always}
+use Rattle.history.proofs.Living.{Kept, read-keep, lived-keep, by-refusal}
+use Rattle.history.proofs.Words.{by-answer, granted-taken, enrolled-number, of-always}
 
 -- a book whose first test is that no draft is open has none where it goes on
 pub first-test : (d : Bool) (r : Refusal) (rest : Option Refusal) → unless (not d) r rest ≡ None → d ≡ false
@@ -49,17 +49,17 @@ pub carried-closed : (s : State) (c : Call) → refusal s c ≡ None → isDraft
 carried-closed s (enrol n l) r d = first-test (s .drafted) DraftOpen (unless (numbered n) NumberOutOfRange (unless (loadWithin l) FigureOutOfRange (unless (fits qseOf (s .qseSlots) n (s .qses)) NoFreeSlot None))) r
 carried-closed s (quantities n v ten) r d =
     let e = first-test (s .drafted) DraftOpen (unless (numbered n) NumberOutOfRange (unless (isOk (serviceOf v) && quantitiesWithin ten) FigureOutOfRange (unless (known qseOf n (s .qses)) NotEnrolled None))) r in
-    through-read (λ t. t .drafted ≡ false) (serviceOf v) _ s e (λ w _. e)
+    read-keep (λ t. t .drafted ≡ false) (serviceOf v) _ s e (λ w _. e)
 carried-closed s (enter n q k f) r d =
     let e = first-test (s .drafted) DraftOpen (unless (numbered n && numbered q) NumberOutOfRange (unless (isOk (classOf k) && figuresWithin f) FigureOutOfRange (unless (known qseOf q (s .qses)) NotEnrolled (unless (fits resourceOf (s .resourceSlots) n (s .resources)) NoFreeSlot None)))) r in
-    through-read (λ t. t .drafted ≡ false) (classOf k) _ s e (λ w _. e)
+    read-keep (λ t. t .drafted ≡ false) (classOf k) _ s e (λ w _. e)
 carried-closed s (strike n) r d = first-test (s .drafted) DraftOpen (unless (numbered n) NumberOutOfRange (unless (known resourceOf n (s .resources)) NoSuchResource None)) r
 carried-closed s (prices v p) r d =
     let e = first-test (s .drafted) DraftOpen (unless (isOk (serviceOf v) && servicePricesWithin p) FigureOutOfRange None) r in
-    through-read (λ t. t .drafted ≡ false) (serviceOf v) _ s e (λ w _. e)
+    read-keep (λ t. t .drafted ≡ false) (serviceOf v) _ s e (λ w _. e)
 carried-closed s (interval v p) r d =
     let e = first-test (s .drafted) DraftOpen (unless (isOk (intervalOf v) && intervalPricesWithin p) FigureOutOfRange None) r in
-    through-read (λ t. t .drafted ≡ false) (intervalOf v) _ s e (λ w _. e)
+    read-keep (λ t. t .drafted ≡ false) (intervalOf v) _ s e (λ w _. e)
 carried-closed s (draft m) r d = absurd (let z : _≡_ {A = ℕ} 0 1 = cc in omega arith)
 carried-closed s (issue n) r d = refl
 carried-closed s (drop n) r d = refl
@@ -121,11 +121,11 @@ rows-entered s n q (Err x) f rs up e = e
 rows-step : (s : State) (c : Call) (rs : List ResourceRow) → Kept s → RowsAgree rs s → RowsAgree (rowsAfter c rs) (carriedOut s c)
 unfolding RowsAgree Kept
 rows-step s (enrol n l) rs k e = e
-rows-step s (quantities n v ten) rs k e = through-read (RowsAgree rs) (serviceOf v) _ s e (λ w _. e)
+rows-step s (quantities n v ten) rs k e = read-keep (RowsAgree rs) (serviceOf v) _ s e (λ w _. e)
 rows-step s (enter n q w f) rs k e = rows-entered s n q (classOf w) f rs (k .1) e
 rows-step s (strike n) rs k e = λ g. without-agree n rs (s .resources) e g ∙ sym (sumZ-removed-others resourceOf g n (s .resources) (k .1))
-rows-step s (prices v p) rs k e = through-read (RowsAgree rs) (serviceOf v) _ s e (λ w _. e)
-rows-step s (interval v p) rs k e = through-read (RowsAgree rs) (intervalOf v) _ s e (λ w _. e)
+rows-step s (prices v p) rs k e = read-keep (RowsAgree rs) (serviceOf v) _ s e (λ w _. e)
+rows-step s (interval v p) rs k e = read-keep (RowsAgree rs) (intervalOf v) _ s e (λ w _. e)
 rows-step s (draft m) rs k e = e
 rows-step s (issue n) rs k e = e
 rows-step s (drop n) rs k e = e
@@ -256,12 +256,12 @@ pub carried-billed : (s : State) (c : Call) → Kept s → isIssue c ≡ false �
 unfolding SameBilled Kept isIssue chargesBilled creditsBilled
 carried-billed s (enrol n l) k i = (λ q v. billed-enrol q n l v (s .qses), sum-enrolled chargesBilled (λ n l. refl) (λ l a. refl) n l (s .qses) (found qseOf n (s .qses)) refl (k .0), sum-enrolled creditsBilled (λ n l. refl) (λ l a. refl) n l (s .qses) (found qseOf n (s .qses)) refl (k .0))
 carried-billed s (quantities n w ten) k i =
-    through-read (SameBilled s) (serviceOf w) _ s (same-billed s)
+    read-keep (SameBilled s) (serviceOf w) _ s (same-billed s)
     (λ u _. (λ q v. billed-supplied q n v u ten (s .qses) (found qseOf n (s .qses)) refl, sum-supplied chargesBilled (λ v t a. refl) n u ten (s .qses) (found qseOf n (s .qses)) refl (k .0), sum-supplied creditsBilled (λ v t a. refl) n u ten (s .qses) (found qseOf n (s .qses)) refl (k .0)))
-carried-billed s (enter n q w f) k i = through-read (SameBilled s) (classOf w) _ s (same-billed s) (λ u _. same-billed s)
+carried-billed s (enter n q w f) k i = read-keep (SameBilled s) (classOf w) _ s (same-billed s) (λ u _. same-billed s)
 carried-billed s (strike n) k i = same-billed s
-carried-billed s (prices w p) k i = through-read (SameBilled s) (serviceOf w) _ s (same-billed s) (λ u _. same-billed s)
-carried-billed s (interval w p) k i = through-read (SameBilled s) (intervalOf w) _ s (same-billed s) (λ u _. same-billed s)
+carried-billed s (prices w p) k i = read-keep (SameBilled s) (serviceOf w) _ s (same-billed s) (λ u _. same-billed s)
+carried-billed s (interval w p) k i = read-keep (SameBilled s) (intervalOf w) _ s (same-billed s) (λ u _. same-billed s)
 carried-billed s (draft m) k i = (λ q v. billed-settled q v m (s .prices) (s .resources) (s .qses) 0 (s .qses), settled-billed-charges m (s .prices) (s .resources) (s .qses), settled-billed-credits m (s .prices) (s .resources) (s .qses))
 carried-billed s (issue n) k i = absurd (let z : _≡_ {A = ℕ} 0 1 = cc in omega arith)
 carried-billed s (drop n) k i = same-billed s

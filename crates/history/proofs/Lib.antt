@@ -1,3 +1,4 @@
+pub mod Calling
 pub mod Lists
 pub mod Living
 pub mod Words

@@ -39,11 +39,6 @@ module _ {R : Type 0} (num : R → ℕ) where
       let ih = rising-head y ys (rising-tail x (y ∷ ys) up) n (omega arith) in
       grind (arith, tells)
 
-  -- the row that is found has the number
-  pub found-number : (n : ℕ) (xs : List R) (r : R) → found num n xs ≡ Some r → num r ≡ n
-  found-number n [] r e = grind arith
-  found-number n (x ∷ xs) r e = let ih = found-number n xs r in grind (arith, tells)
-
 module _ {R : Type 0} where
   -- equal integers add up to the same
   pub sumZ-cong : (f g : R → ℤ) (xs : List R) → ((x : R) → f x ≡ g x) → sumZ f xs ≡ sumZ g xs

@@ -71,7 +71,8 @@ supplied-keep : (v : Service) (ten : BareQuantities) (o : Option Account) (xs : 
 supplied-keep v ten None xs up = up
 supplied-keep v ten (Some a) xs up = rising-put qseOf (withQuantities v ten a) xs up
 
-read-keep : {A : Type 0} (P : State → Type 0) (r : Result A Refusal) (f : A → State) (s : State) → P s → ((x : A) → r ≡ Ok x → P (f x)) → P (withRead r f s)
+-- what a call makes of a state is read through what it read
+pub read-keep : {A : Type 0} (P : State → Type 0) (r : Result A Refusal) (f : A → State) (s : State) → P s → ((x : A) → r ≡ Ok x → P (f x)) → P (withRead r f s)
 read-keep P (Ok x) f s p q = q x refl
 read-keep P (Err e) f s p q = p
 

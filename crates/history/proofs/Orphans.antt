@@ -29,8 +29,8 @@ use Rattle.history.specs.Settlement.{sumZ}
 use Rattle.history.specs.Calls.{State, Call, enrol, quantities, enter, strike, prices, interval, draft, issue, drop, qseOf, resourceOf, refusal, carriedOut, opened, supplied, enrolled, withQuantities, unless}
 use Rattle.history.specs.Histories.{History, Lived, opening, then}
 use Rattle.history.proofs.Lists.{sumZ-cong, others, sumZ-others, sumZ-put-others, sumZ-removed-others}
-use Rattle.history.proofs.Living.{Kept, lived-keep, by-refusal, settled-keep-rows, billed-keep-rows}
-use Rattle.history.proofs.Words.{through-read, rowIn, row-by-rows}
+use Rattle.history.proofs.Living.{Kept, read-keep, lived-keep, by-refusal, settled-keep-rows, billed-keep-rows}
+use Rattle.history.proofs.Words.{rowIn, row-by-rows}
 
 -- what the rows of a QSE add up to
 abbrev pub under : ℕ → (ResourceRow → ℤ) → ResourceRow → ℤ
@@ -96,13 +96,13 @@ five-tests d n b c k m r q p o w e = grind (arith, tells)
 orphans-step : (s : State) (c : Call) → Kept s → refusal s c ≡ None → NoOrphans s → NoOrphans (carriedOut s c)
 unfolding NoOrphans Kept
 orphans-step s (enrol n l) k r u = λ q e f. u q (absent-before-put q (enrolled n l (found qseOf n (s .qses))) (s .qses) e) f
-orphans-step s (quantities n v ten) k r u = through-read NoOrphans (serviceOf v) _ s u (λ w _ q e f. u q (absent-before-supply q w ten (found qseOf n (s .qses)) (s .qses) e) f)
+orphans-step s (quantities n v ten) k r u = read-keep NoOrphans (serviceOf v) _ s u (λ w _ q e f. u q (absent-before-supply q w ten (found qseOf n (s .qses)) (s .qses) e) f)
 orphans-step s (enter n p w g) k r u =
     let t = five-tests (s .drafted) (numbered n && numbered p) (isOk (classOf w)) (figuresWithin g) (known qseOf p (s .qses)) (fits resourceOf (s .resourceSlots) n (s .resources)) DraftOpen NumberOutOfRange FigureOutOfRange NotEnrolled NoFreeSlot r in
-    through-read NoOrphans (classOf w) _ s u (λ c _ q e f. entered-none q (record { number = n; qse = p; class = c; figures = g }) s (k .1) (known-apart p q (s .qses) t e) (u q e) f)
+    read-keep NoOrphans (classOf w) _ s u (λ c _ q e f. entered-none q (record { number = n; qse = p; class = c; figures = g }) s (k .1) (known-apart p q (s .qses) t e) (u q e) f)
 orphans-step s (strike n) k r u = λ q e f. sumZ-removed-others resourceOf (under q f) n (s .resources) (k .1) ∙ others-none n q (s .resources) (u q e) f
-orphans-step s (prices v p) k r u = through-read NoOrphans (serviceOf v) _ s u (λ w _. u)
-orphans-step s (interval v p) k r u = through-read NoOrphans (intervalOf v) _ s u (λ w _. u)
+orphans-step s (prices v p) k r u = read-keep NoOrphans (serviceOf v) _ s u (λ w _. u)
+orphans-step s (interval v p) k r u = read-keep NoOrphans (intervalOf v) _ s u (λ w _. u)
 orphans-step s (draft m) k r u = λ q e f. u q (absent-by-rows q _ (s .qses) (settled-keep-rows m (s .prices) (s .resources) (s .qses) 0 (s .qses)) e) f
 orphans-step s (issue n) k r u = λ q e f. u q (absent-by-rows q _ (s .qses) (billed-keep-rows (s .qses)) e) f
 orphans-step s (drop n) k r u = u

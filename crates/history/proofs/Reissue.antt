@@ -30,6 +30,7 @@ use Rattle.history.specs.Calls.{State, Line, Call, enrol, quantities, enter, s
 use Rattle.history.specs.Calls.{qseOf, enrolled, supplied, withQses, withResources, withPrices, billedBook, dropped, statement, unless, refusal, withRead, carriedOut, granted, answerBy, stateBy, answer, after, opened}
 use Rattle.history.specs.Histories.{History, Lived, opening, then, isStatement, redraft, reissue}
 use Rattle.history.specs.Law.{EveryEdition}
+use Rattle.history.proofs.Living.{settled-keep-rows, billed-keep-rows}
 
 -- the rows of accounts, and the number of a row
 abbrev pub rowsOf : List Account → List QseRow
@@ -68,20 +69,6 @@ put-rows a [] = refl
 put-rows a (x ∷ xs) =
     through-cond rowsOf (ltb (qseOf x) (qseOf a)) _ _
     ∙ rw (through-cond rowsOf (eqb (qseOf x) (qseOf a)) (a ∷ xs) (a ∷ x ∷ xs), put-rows a xs)
-
--- a change of each account that keeps its row keeps the rows
-pub mapFrom-rows : (f : ℕ → Account → Account) → ((i : ℕ) (a : Account) → f i a .row ≡ a .row) → (i : ℕ) (xs : List Account) → rowsOf (mapFrom i f xs) ≡ rowsOf xs
-mapFrom-rows f keeps i [] = refl
-mapFrom-rows f keeps i (x ∷ xs) = rw (keeps i x, mapFrom-rows f keeps (suc i) xs)
-
--- settling keeps the rows
-pub settled-rows : (e : Meaning) (p : BarePrices) (rs : List ResourceRow) (xs : List Account) → rowsOf (settledAccounts e p rs xs) ≡ rowsOf xs
-settled-rows e p rs xs = mapFrom-rows (settledAccount e p rs xs) (λ i a. refl) 0 xs
-
--- billing keeps the rows
-pub billed-rows : (xs : List Account) → rowsOf (map billedAccount xs) ≡ rowsOf xs
-billed-rows [] = refl
-billed-rows (x ∷ xs) = ap (λ rs. x .row ∷ rs) (billed-rows xs)
 
 -- accounts with the same rows: the same look-up up to rows, as many, the same ones known
 module _ (xs ys : List Account) (same : rowsOf xs ≡ rowsOf ys) where
@@ -148,7 +135,7 @@ module _ (s t : State) (a : Alike s t) where
 
   -- drafts of any two editions leave alike books alike
   pub alike-drafted : (e d : Meaning) → Alike (carriedOut s (draft e)) (carriedOut t (draft d))
-  alike-drafted e d = record { number = a .number; qseSlots = a .qseSlots; resourceSlots = a .resourceSlots; rows = settled-rows e (s .prices) (s .resources) (s .qses) ∙ a .rows ∙ sym (settled-rows d (t .prices) (t .resources) (t .qses)); resources = a .resources; prices = a .prices; drafted = refl; issued = a .issued }
+  alike-drafted e d = record { number = a .number; qseSlots = a .qseSlots; resourceSlots = a .resourceSlots; rows = settled-keep-rows e (s .prices) (s .resources) (s .qses) 0 (s .qses) ∙ a .rows ∙ sym (settled-keep-rows d (t .prices) (t .resources) (t .qses) 0 (t .qses)); resources = a .resources; prices = a .prices; drafted = refl; issued = a .issued }
 
   -- other accounts with the same rows, the same other resources and the same other prices leave alike books alike
   alike-qses : (xs ys : List Account) → rowsOf xs ≡ rowsOf ys → Alike (withQses xs s) (withQses ys t)
@@ -162,7 +149,7 @@ module _ (s t : State) (a : Alike s t) where
 
   -- so does an issue, and so does a drop
   alike-billed : Alike (billedBook s) (billedBook t)
-  alike-billed = record { number = a .number; qseSlots = a .qseSlots; resourceSlots = a .resourceSlots; rows = billed-rows (s .qses) ∙ a .rows ∙ sym (billed-rows (t .qses)); resources = a .resources; prices = a .prices; drafted = refl; issued = refl }
+  alike-billed = record { number = a .number; qseSlots = a .qseSlots; resourceSlots = a .resourceSlots; rows = billed-keep-rows (s .qses) ∙ a .rows ∙ sym (billed-keep-rows (t .qses)); resources = a .resources; prices = a .prices; drafted = refl; issued = refl }
 
   alike-dropped : Alike (dropped s) (dropped t)
   alike-dropped = record { number = a .number; qseSlots = a .qseSlots; resourceSlots = a .resourceSlots; rows = a .rows; resources = a .resources; prices = a .prices; drafted = refl; issued = a .issued }

@@ -38,7 +38,7 @@ use Rattle.history.specs.declared.account.Account.{Account}
 use Rattle.history.specs.Settlement.{byService, mapFrom, settledAccount, billedAccount}
 use Rattle.history.specs.Calls.{State, Call, enrol, quantities, enter, strike, prices, interval, draft, issue, drop, Answer, refused, done, stated, qseOf, refusal, carriedOut, granted, answerBy, stateBy, answer, after, opened, withRead, supplied, enrolled, withQuantities, unless}
 use Rattle.history.specs.Histories.{History, Lived, opening, then, taken, orElse, newest, when, setsLoad, setsQuantities, setsPrices, setsInterval, loadOf, quantitiesOf, servicePricesOf, intervalPricesOf, pricesOf}
-use Rattle.history.proofs.Living.{Kept, lived-keep, settled-keep-rows, billed-keep-rows}
+use Rattle.history.proofs.Living.{Kept, read-keep, lived-keep, settled-keep-rows, billed-keep-rows}
 
 -- a call that is carried out is taken
 pub granted-taken : (s : State) (c : Call) → taken (granted s c) ≡ true
@@ -114,19 +114,14 @@ load-supplied q n v ten xs (Some a) e =
     let m = found-number qseOf n xs a e in
     grind (arith, tells)
 
--- what a call makes of a state is read through what it read
-pub through-read : {A : Type 0} (P : State → Type 0) (r : Result A Refusal) (f : A → State) (s : State) → P s → ((x : A) → r ≡ Ok x → P (f x)) → P (withRead r f s)
-through-read P (Ok x) f s p q = q x refl
-through-read P (Err e) f s p q = p
-
 load-step : (q : ℕ) (s : State) (c : Call) (x : Option ℕ) → Kept s → refusal s c ≡ None → LoadAgrees q x s → LoadAgrees q (orElse (setsLoad q c) x) (carriedOut s c)
 unfolding LoadAgrees
 load-step q s (enrol n l) x k r e = load-enrol q n l x (s .qses) e
-load-step q s (quantities n v ten) x k r e = through-read (LoadAgrees q x) (serviceOf v) _ s e (λ w _. e ∙ load-supplied q n w ten (s .qses) (found qseOf n (s .qses)) refl)
-load-step q s (enter n o w f) x k r e = through-read (LoadAgrees q x) (classOf w) _ s e (λ w _. e)
+load-step q s (quantities n v ten) x k r e = read-keep (LoadAgrees q x) (serviceOf v) _ s e (λ w _. e ∙ load-supplied q n w ten (s .qses) (found qseOf n (s .qses)) refl)
+load-step q s (enter n o w f) x k r e = read-keep (LoadAgrees q x) (classOf w) _ s e (λ w _. e)
 load-step q s (strike n) x k r e = e
-load-step q s (prices v p) x k r e = through-read (LoadAgrees q x) (serviceOf v) _ s e (λ w _. e)
-load-step q s (interval v p) x k r e = through-read (LoadAgrees q x) (intervalOf v) _ s e (λ w _. e)
+load-step q s (prices v p) x k r e = read-keep (LoadAgrees q x) (serviceOf v) _ s e (λ w _. e)
+load-step q s (interval v p) x k r e = read-keep (LoadAgrees q x) (intervalOf v) _ s e (λ w _. e)
 load-step q s (draft m) x k r e = e ∙ ap (mapped (λ r. r .load)) (row-by-rows q (s .qses) _ (sym (settled-keep-rows m (s .prices) (s .resources) (s .qses) 0 (s .qses))))
 load-step q s (issue n) x k r e = e ∙ ap (mapped (λ r. r .load)) (row-by-rows q (s .qses) _ (sym (billed-keep-rows (s .qses))))
 load-step q s (drop n) x k r e = e
@@ -199,10 +194,10 @@ quantities-step q v s (quantities n w ten) x k r e =
     let a = is-some (found qseOf n (s .qses)) (t .2) in
     through-ok (QuantitiesAgree q v (orElse (setsQuantities q v (quantities n w ten)) x)) (serviceOf w) _ s (t .1)
     (λ u o. rw (service-number w u o) (quantities-supplied q n v u ten x (s .qses) (found qseOf n (s .qses)) (a .0) (a .1) refl e))
-quantities-step q v s (enter n o w f) x k r e = through-read (QuantitiesAgree q v x) (classOf w) _ s e (λ w _. e)
+quantities-step q v s (enter n o w f) x k r e = read-keep (QuantitiesAgree q v x) (classOf w) _ s e (λ w _. e)
 quantities-step q v s (strike n) x k r e = e
-quantities-step q v s (prices w p) x k r e = through-read (QuantitiesAgree q v x) (serviceOf w) _ s e (λ w _. e)
-quantities-step q v s (interval w p) x k r e = through-read (QuantitiesAgree q v x) (intervalOf w) _ s e (λ w _. e)
+quantities-step q v s (prices w p) x k r e = read-keep (QuantitiesAgree q v x) (serviceOf w) _ s e (λ w _. e)
+quantities-step q v s (interval w p) x k r e = read-keep (QuantitiesAgree q v x) (intervalOf w) _ s e (λ w _. e)
 quantities-step q v s (draft m) x k r e = e ∙ ap (λ o. quantitiesIn o v) (row-by-rows q (s .qses) _ (sym (settled-keep-rows m (s .prices) (s .resources) (s .qses) 0 (s .qses))))
 quantities-step q v s (issue n) x k r e = e ∙ ap (λ o. quantitiesIn o v) (row-by-rows q (s .qses) _ (sym (billed-keep-rows (s .qses))))
 quantities-step q v s (drop n) x k r e = e
@@ -227,13 +222,13 @@ price-set v w p x ps e = let k = of-with v w p ps in grind (arith, tells)
 prices-step : (v : Service) (s : State) (c : Call) (x : Option BareServicePrices) → Kept s → refusal s c ≡ None → PricesAgree v x s → PricesAgree v (orElse (setsPrices v c) x) (carriedOut s c)
 unfolding PricesAgree
 prices-step v s (enrol n l) x k r e = e
-prices-step v s (quantities n w ten) x k r e = through-read (PricesAgree v x) (serviceOf w) _ s e (λ w _. e)
-prices-step v s (enter n o w f) x k r e = through-read (PricesAgree v x) (classOf w) _ s e (λ w _. e)
+prices-step v s (quantities n w ten) x k r e = read-keep (PricesAgree v x) (serviceOf w) _ s e (λ w _. e)
+prices-step v s (enter n o w f) x k r e = read-keep (PricesAgree v x) (classOf w) _ s e (λ w _. e)
 prices-step v s (strike n) x k r e = e
 prices-step v s (prices w p) x k r e =
     let t = two-tests (s .drafted) (isOk (serviceOf w)) (servicePricesWithin p) DraftOpen FigureOutOfRange r .1 in
     through-ok (PricesAgree v (orElse (setsPrices v (prices w p)) x)) (serviceOf w) _ s t (λ u o. rw (service-number w u o) (price-set v u p x (s .prices .services) e))
-prices-step v s (interval w p) x k r e = through-read (PricesAgree v x) (intervalOf w) _ s e (λ w _. e)
+prices-step v s (interval w p) x k r e = read-keep (PricesAgree v x) (intervalOf w) _ s e (λ w _. e)
 prices-step v s (draft m) x k r e = e
 prices-step v s (issue n) x k r e = e
 prices-step v s (drop n) x k r e = e
@@ -251,10 +246,10 @@ interval-set v w p x ps e = let k = of-with-interval v w p ps in grind (arith, t
 interval-step : (v : Interval) (s : State) (c : Call) (x : Option BareIntervalPrices) → Kept s → refusal s c ≡ None → IntervalAgrees v x s → IntervalAgrees v (orElse (setsInterval v c) x) (carriedOut s c)
 unfolding IntervalAgrees
 interval-step v s (enrol n l) x k r e = e
-interval-step v s (quantities n w ten) x k r e = through-read (IntervalAgrees v x) (serviceOf w) _ s e (λ w _. e)
-interval-step v s (enter n o w f) x k r e = through-read (IntervalAgrees v x) (classOf w) _ s e (λ w _. e)
+interval-step v s (quantities n w ten) x k r e = read-keep (IntervalAgrees v x) (serviceOf w) _ s e (λ w _. e)
+interval-step v s (enter n o w f) x k r e = read-keep (IntervalAgrees v x) (classOf w) _ s e (λ w _. e)
 interval-step v s (strike n) x k r e = e
-interval-step v s (prices w p) x k r e = through-read (IntervalAgrees v x) (serviceOf w) _ s e (λ w _. e)
+interval-step v s (prices w p) x k r e = read-keep (IntervalAgrees v x) (serviceOf w) _ s e (λ w _. e)
 interval-step v s (interval w p) x k r e =
     let t = two-tests (s .drafted) (isOk (intervalOf w)) (intervalPricesWithin p) DraftOpen FigureOutOfRange r .1 in
     through-ok (IntervalAgrees v (orElse (setsInterval v (interval w p)) x)) (intervalOf w) _ s t (λ u o. rw (interval-number w u o) (interval-set v u p x (s .prices .intervals) e))

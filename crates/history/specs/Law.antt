@@ -34,9 +34,12 @@ SomeLoad h = (b : History) × (q : ℕ) × (load : ℕ) × (lastIssue h ≡ Some
 abbrev pub NobodyCharged : History → Type 0
 NobodyCharged h = (b : History) × (e : Meaning) × (d : History) × (lastIssue h ≡ Some b) × (lastDraft b ≡ Some (e, d)) × ((q : ℕ) (s : Service) → isSome (loadOf d q) ≡ true → chargeAt e d q s ≡ 0)
 
--- the balance law: the books balance exactly where no statement was issued, or some QSE had a load above 0 at the last issue, or nobody was charged at it
+-- the balance law, of a history: the books balance exactly where no statement was issued, or some QSE had a load above 0 at the last issue, or nobody was charged at it
+abbrev pub BalanceAt : History → Type 0
+BalanceAt h = (Balanced h → NoIssue h ⊎ (SomeLoad h ⊎ NobodyCharged h)) × (NoIssue h ⊎ (SomeLoad h ⊎ NobodyCharged h) → Balanced h)
+
 abbrev pub BalanceLaw : Type 0
-BalanceLaw = (h : History) (s : State) → Lived h s → (Balanced h → NoIssue h ⊎ (SomeLoad h ⊎ NobodyCharged h)) × (NoIssue h ⊎ (SomeLoad h ⊎ NobodyCharged h) → Balanced h)
+BalanceLaw = (h : History) (s : State) → Lived h s → BalanceAt h
 
 -- the same QSEs with the same loads, and the same prices
 abbrev pub SameQses : History → History → Type 0
@@ -57,13 +60,19 @@ PutUnder e h g = (lines : List Line) × (s : State) × (g ≡ reissue e lines h)
 abbrev pub SameBills : History → History → Type 0
 SameBills h k = (e : Meaning) (g l : History) → PutUnder e h g → PutUnder e k l → (q : ℕ) (s : Service) → billedOf g q s ≡ billedOf l q s
 
--- the distinction law: where QSEs, loads and prices are the same at the last issues, rows match exactly where all bills are the same
+-- the distinction law, of two histories: where QSEs, loads and prices are the same at the last issues, rows match exactly where all bills are the same
+abbrev pub DistinctionAt : History → History → Type 0
+DistinctionAt h k = (b d : History) → lastIssue h ≡ Some b → lastIssue k ≡ Some d → SameQses b d → SamePrices b d → (RowsMatch b d → SameBills h k) × (SameBills h k → RowsMatch b d)
+
 abbrev pub DistinctionLaw : Type 0
-DistinctionLaw = (h k : History) (s t : State) (b d : History) → Lived h s → Lived k t → lastIssue h ≡ Some b → lastIssue k ≡ Some d → SameQses b d → SamePrices b d → (RowsMatch b d → SameBills h k) × (SameBills h k → RowsMatch b d)
+DistinctionLaw = (h k : History) (s t : State) → Lived h s → Lived k t → DistinctionAt h k
 
 -- every edition can be put under an issue
+abbrev pub EveryEditionAt : History → Type 0
+EveryEditionAt h = (e : Meaning) → (g : History) × PutUnder e h g
+
 abbrev pub EveryEdition : Type 0
-EveryEdition = (h : History) (s : State) → Lived h s → (e : Meaning) → (g : History) × PutUnder e h g
+EveryEdition = (h : History) (s : State) → Lived h s → EveryEditionAt h
 
 -- "read" answers what the lines of the statements add up to
 abbrev pub ReadLaw : Type 0
@@ -72,3 +81,9 @@ ReadLaw = (h : History) (s : State) → Lived h s → (qse letter : ℕ) (v : Se
 -- every statement has a line for each QSE in rising order: what was settled less what was billed before
 abbrev pub StatementLaw : Type 0
 StatementLaw = (h : History) (c : Call) (lines : List Line) (s : State) → Lived ((c, stated lines) ∷ h) s → (t : State) × Lived h t × (lines ≡ statement t) × Rising (λ l. l .qse) lines
+
+-- the law of a history, beside that of any other lived book
+pub record LawAt (h : History) : Type 0 where
+  pub balance : BalanceAt h
+  pub distinction : (k : History) (t : State) → Lived k t → DistinctionAt h k
+  pub editions : EveryEditionAt h

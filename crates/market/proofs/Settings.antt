@@ -13,8 +13,8 @@ use Rattle.market.specs.declared.service.ByService.{ByService}
 use Rattle.market.specs.declared.interval.Interval.{Interval}
 use Rattle.market.specs.declared.interval.Interval.the-variants.{First, Second, Third, Fourth}
 use Rattle.market.specs.declared.interval.ByInterval.{ByInterval}
-use Rattle.market.specs.Services.{serviceOf, serviceNumber, of, withService}
-use Rattle.market.specs.Intervals.{intervalOf, intervalNumber, ofInterval, withInterval}
+use Rattle.market.specs.Services.{serviceOf, serviceNumber, of, withService, each}
+use Rattle.market.specs.Intervals.{intervalOf, intervalNumber, ofInterval, withInterval, eachInterval}
 
 -- a service's value after one service was given another
 pub of-with : {A : Type 0} (v w : Service) (a : A) (x : ByService A) → of v (withService w a x) ≡ cond (eqb (serviceNumber w) (serviceNumber v)) a (of v x)
@@ -77,3 +77,17 @@ interval-number n First h = grind (arith, tells)
 interval-number n Second h = grind (arith, tells)
 interval-number n Third h = grind (arith, tells)
 interval-number n Fourth h = grind (arith, tells)
+
+-- another value for a service, seen through a function of each
+pub each-with : {A B : Type 0} (f : A → B) (v : Service) (a : A) (x : ByService A) → each f (withService v a x) ≡ withService v (f a) (each f x)
+each-with f RegUp a x = refl
+each-with f RegDown a x = refl
+each-with f Responsive a x = refl
+each-with f NonSpin a x = refl
+each-with f Ecrs a x = refl
+
+pub each-with-interval : {A B : Type 0} (f : A → B) (v : Interval) (a : A) (x : ByInterval A) → eachInterval f (withInterval v a x) ≡ withInterval v (f a) (eachInterval f x)
+each-with-interval f First a x = refl
+each-with-interval f Second a x = refl
+each-with-interval f Third a x = refl
+each-with-interval f Fourth a x = refl

@@ -15,6 +15,7 @@ use Rattle.market.specs.declared.qse.Qse.{Qse}
 use Rattle.market.specs.declared.qse.QseRow.{QseRow}
 use Rattle.market.specs.declared.resource.Resource.{Resource}
 use Rattle.market.specs.declared.resource.ResourceRow.{ResourceRow}
+use Rattle.market.specs.declared.class.Class.the-variants.{Generation}
 use Rattle.market.specs.Services.{each}
 use Rattle.market.specs.Intervals.{eachInterval}
 
@@ -54,3 +55,7 @@ noQuantities = record { dasa = 0; rtsa = 0; trs = 0; rtpc = 0; pc = 0; ruc = 0; 
 
 abbrev pub noPrices : BarePrices
 noPrices = record { services = always (record { dam = 0; sasm = 0; rsasm = 0 }); intervals = everyInterval (record { rtrsvpor = 0; rtrdp = 0 }) }
+
+-- a row with every figure 0
+abbrev pub emptyRow : ResourceRow
+emptyRow = record { number = 0; qse = 0; class = Generation; figures = record { telemetered = always 0; npf = 0; lpc = 0 } }

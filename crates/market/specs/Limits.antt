@@ -70,3 +70,7 @@ qseOf q = ifNumbered (numbered (q .number)) (ifWithin (loadWithin (q .load) && a
 -- what the check of a resource row answers: both numbers are looked at first
 abbrev pub resourceOf : ResourceRow → Result ResourceRow Refusal
 resourceOf r = ifNumbered (numbered (r .number) && numbered (r .qse)) (ifWithin (figuresWithin (r .figures)) r)
+
+-- whether a row of a resource lies within all its limits
+abbrev pub resourceSound : ResourceRow → Bool
+resourceSound r = numbered (r .number) && numbered (r .qse) && figuresWithin (r .figures)

@@ -6,7 +6,7 @@
 //     table.put(row)?;
 //     let row = table.get(7);
 pub mod numbered;
-mod slots;
+pub mod slots;
 pub mod table;
 
 pub use numbered::Numbered;

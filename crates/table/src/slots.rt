@@ -9,7 +9,7 @@ use crate::numbered::Numbered;
 
 // Where the row of a number stands, or else where it belongs.
 // 256 rows take eight halvings, and then one look at the row that is left.
-pub(crate) fn locate<R: Numbered>(held: &[R], number: u32) -> Result<usize, usize>
+pub fn locate<R: Numbered>(held: &[R], number: u32) -> Result<usize, usize>
     ensures answer { λ r. ⌜ (Rising (R·Numbered .number) (now (held .entry)) → r ≡ located (R·Numbered .number) number (now (held .entry))) ⌝ }
     ensures within { λ r. ⌜ Cases r (λ i. i < length (now (held .entry))) (λ i. i ≤ length (now (held .entry))) ⌝ }
 {

@@ -1,0 +1,5 @@
+mod Accounts
+mod Asking
+mod Carried
+mod Entering
+mod Passing

@@ -1,0 +1,8 @@
+mod Limits
+mod Rows
+mod Bills
+mod Counts
+mod Charges
+mod Pairs
+mod Services
+mod Hour

@@ -31,6 +31,7 @@ use Rattle.history.specs.Calls.{qseOf, enrolled, supplied, withQses, withResou
 use Rattle.history.specs.Histories.{History, Lived, opening, then, isStatement, redraft, reissue}
 use Rattle.history.specs.Law.{EveryEdition}
 use Rattle.history.proofs.Living.{settled-keep-rows, billed-keep-rows}
+use Rattle.history.proofs.Words.{unless-none}
 
 -- the rows of accounts, and the number of a row
 abbrev pub rowsOf : List Account → List QseRow
@@ -216,11 +217,6 @@ states-by-issue s (interval i p) e = absurd (done-states-nothing (refusal s (int
 states-by-issue s (draft d) e = absurd (done-states-nothing (refusal s (draft d)) e)
 states-by-issue s (issue n) e = (n, refl, stated-is-granted (refusal s (issue n)) (statement s) e)
 states-by-issue s (drop n) e = absurd (done-states-nothing (refusal s (drop n)) e)
-
--- where nothing is refused the test holds, and so do those after it
-unless-none : (b : Bool) (r : Refusal) (rest : Option Refusal) → unless b r rest ≡ None → (b ≡ true) × (rest ≡ None)
-unless-none true r rest e = (refl, e)
-unless-none false r rest e = (cc, cc)
 
 -- an issue that is not refused has an open draft before it
 pub drafted-before-issue : (s : State) (n : ℕ) → refusal s (issue n) ≡ None → s .drafted ≡ true

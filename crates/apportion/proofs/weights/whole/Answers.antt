@@ -7,7 +7,7 @@ use Rattle.apportion.proofs.weights.whole.Goals as goal
 pub loop-row-preserved : goal.loop-row-preserved
 loop-row-preserved g c =
     let more = first_row g.R.Weighted.weight c.args.rows.now c.loop-row.row-index c.row-item.result c.loop-row-test.true c.row-item.is in
-    let added = c.in-ok-sum.ensures in
+    let added = c.in_ok-sum.ensures in
     (omega arith, omega arith)
 
 pub returns : goal.returns
@@ -16,11 +16,11 @@ returns g c =
     let all = first_all ws c.loop-row.row-index (omega (arith, length-map c.args.rows.now g.R.Weighted.weight)) in
     record { answer = grind (arith, nat_tests) }
 
-pub returns-in-err-sum : goal.returns-in-err-sum
-returns-in-err-sum g c =
+pub returns-in_err-sum : goal.returns-in_err-sum
+returns-in_err-sum g c =
     let more = first_row g.R.Weighted.weight c.args.rows.now c.loop-row.row-index c.row-item.result c.loop-row-test.true c.row-item.is in
     let ws = map g.R.Weighted.weight c.args.rows.now in
     let within = first_within ws (c.loop-row.row-index + 1) in
-    let over = c.in-err-sum.ensures in
+    let over = c.in_err-sum.ensures in
     let large : 2 ^ 64 ≤ sum ws = omega arith in
     record { answer = grind (arith, nat_tests) }

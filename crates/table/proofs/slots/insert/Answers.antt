@@ -5,4 +5,4 @@ use Rattle.table.proofs.slots.insert.Goals as goal
 
 pub returns : goal.returns
 returns g c =
-    record { after = ap (λ ys. take (c.args.used + 1) (set ys c.args.place c.args.row)) c.copy-within.ensures.after ∙ shifted_up c.args.slots.now c.args.place c.args.used c.args.row c.requires.place c.requires.free }
+    record { after = ap (λ ys. take (c.args.used + 1) (set ys c.args.place c.args.row)) c.copy_within.ensures.after ∙ shifted_up c.args.slots.now c.args.place c.args.used c.args.row c.requires.place c.requires.free }

@@ -5,4 +5,4 @@ use Rattle.table.proofs.slots.strike.Goals as goal
 
 pub returns : goal.returns
 returns g c =
-    record { after = ap (take (c.args.used - 1)) c.copy-within.ensures.after ∙ shifted_down c.args.slots.now c.args.place c.args.used c.requires.place c.requires.within }
+    record { after = ap (take (c.args.used - 1)) c.copy_within.ensures.after ∙ shifted_down c.args.slots.now c.args.place c.args.used c.requires.place c.requires.within }

@@ -13,7 +13,7 @@ returns-in-Ok g c =
     let i = c.in-Ok.place in
     record {
       answer = λ s.
-          let h = known_from_ok num n held i (placed num c.as-slice.result.now held n n (Ok i) c.as-slice.ensures.answer refl c.in-Ok.ensures.answer s.1) in
+          let h = known_from_ok num n held i (placed num c.as_slice.result.now held n n (Ok i) c.as_slice.ensures.answer refl c.in-Ok.ensures.answer s.1) in
           rw (h.0, h.1);
     }
 
@@ -25,6 +25,6 @@ returns-in-Err g c =
     let i = c.in-Err.field-0 in
     record {
       answer = λ s.
-          let h = new_from_err num n held i (placed num c.as-slice.result.now held n n (Err i) c.as-slice.ensures.answer refl c.in-Err.ensures.answer s.1) in
+          let h = new_from_err num n held i (placed num c.as_slice.result.now held n n (Err i) c.as_slice.ensures.answer refl c.in-Err.ensures.answer s.1) in
           rw h.0;
     }

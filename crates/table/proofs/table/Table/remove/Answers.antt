@@ -15,7 +15,7 @@ returns-in-Ok g c =
     let t = c.args.self.now in
     let i = c.in-Ok.place in
     let used = c.len-used.result in
-    let at : Rising num (rows t) → located num n (rows t) ≡ Ok i = placed num c.as-slice.result.now (rows t) n n (Ok i) c.as-slice.ensures.answer refl c.in-Ok.ensures.answer in
+    let at : Rising num (rows t) → located num n (rows t) ≡ Ok i = placed num c.as_slice.result.now (rows t) n n (Ok i) c.as_slice.ensures.answer refl c.in-Ok.ensures.answer in
     let on : Rising num (rows t) → take (used - 1) c.strike.new.slots ≡ removed num n (rows t) = λ up. struck num t.slots.now c.strike.new.slots t.len used i n c.len-used.ensures.answer c.strike.ensures.after up (at up) in
     let kept : length c.strike.new.slots ≡ capacity t = c.strike.auto.slots in
     record {
@@ -31,7 +31,7 @@ returns-in-Err g c =
     let n = c.args.number in
     let t = c.args.self.now in
     let i = c.in-Err.field-0 in
-    let at : Rising num (rows t) → located num n (rows t) ≡ Err i = placed num c.as-slice.result.now (rows t) n n (Err i) c.as-slice.ensures.answer refl c.in-Err.ensures.answer in
+    let at : Rising num (rows t) → located num n (rows t) ≡ Err i = placed num c.as_slice.result.now (rows t) n n (Err i) c.as_slice.ensures.answer refl c.in-Err.ensures.answer in
     record {
       answer = λ s. sym (cond-false _ _ _ (new_from_err num n (rows t) i (at s.1)).0);
       after = λ s. sym (removed_absent num n (rows t) (new_from_err num n (rows t) i (at s.1)).0);

@@ -95,16 +95,16 @@ behind h b s l i = behind_by h b s l (last_issue h) i (issue_behind l)
 -- the rows rest while a draft is open: the words at an issue are those at its draft
 module _ (h b : History) (x : Behind h b) where
   rest_loads : (q : ℕ) → load_of b q ≡ load_of x.older q
-  rest_loads q = load_agrees x.then-lived q ∙ ap (λ s. option_map (λ r. r.load) (row_in q s.qses)) x.settled ∙ ap (option_map (λ r. r.load)) (row_settled q x.edition x.book) ∙ sym (load_agrees x.lived q)
+  rest_loads q = load_agrees x.then_lived q ∙ ap (λ s. option_map (λ r. r.load) (row_in q s.qses)) x.settled ∙ ap (option_map (λ r. r.load)) (row_settled q x.edition x.book) ∙ sym (load_agrees x.lived q)
 
   rest_quantities : (q : ℕ) (v : Service) → quantities_of b q v ≡ quantities_of x.older q v
-  rest_quantities q v = quantities_agree x.then-lived q v ∙ ap (λ s. quantities_in (row_in q s.qses) v) x.settled ∙ ap (λ o. quantities_in o v) (row_settled q x.edition x.book) ∙ sym (quantities_agree x.lived q v)
+  rest_quantities q v = quantities_agree x.then_lived q v ∙ ap (λ s. quantities_in (row_in q s.qses) v) x.settled ∙ ap (λ o. quantities_in o v) (row_settled q x.edition x.book) ∙ sym (quantities_agree x.lived q v)
 
   rest_prices : prices_of b ≡ prices_of x.older
-  rest_prices = prices_agree x.then-lived ∙ ap (λ s. s.prices) x.settled ∙ sym (prices_agree x.lived)
+  rest_prices = prices_agree x.then_lived ∙ ap (λ s. s.prices) x.settled ∙ sym (prices_agree x.lived)
 
   rest_sums : (f : ResourceRow → ℤ) → sum_z f (rows b) ≡ sum_z f (rows x.older)
-  rest_sums f = rows_agree x.then-lived f ∙ ap (λ s. sum_z f s.resources) x.settled ∙ sym (rows_agree x.lived f)
+  rest_sums f = rows_agree x.then_lived f ∙ ap (λ s. sum_z f s.resources) x.settled ∙ sym (rows_agree x.lived f)
 
   rest_occurrences : (q : ℕ) (k : Class) (f : BareFigures) → occurrences b q k f ≡ occurrences x.older q k f
   rest_occurrences q k f =

@@ -12,27 +12,27 @@ use Rattle.admission.proofs.Passing.{three_refuse}
 use Rattle.book.proofs.Accounts.{enrolled_sound, enrol_put, enrol_full}
 use Rattle.book.proofs.book.Book.enrol.Goals as goal
 
-pub returns-in-err-tested-enrol : goal.returns-in-err-tested-enrol
-returns-in-err-tested-enrol c =
-    let p = err_from_is_err_and c.from-residual.result c.from-residual.ensures.1 in
+pub returns-in_err-tested_enrol : goal.returns-in_err-tested_enrol
+returns-in_err-tested_enrol c =
+    let p = err_from_is_err_and c.from_residual.result c.from_residual.ensures.1 in
     let s = view c.args.self.now in
-    rw (p.1, p.2) (record { called = called_refused s _ (enrol c.args.qse c.args.load) _ (three_refuse (not s.drafted) (numbered c.args.qse) (load_within c.args.load) DraftOpen NumberOutOfRange FigureOutOfRange _ (unless (fits qse_of s.qse_slots c.args.qse s.qses) NoFreeSlot None) c.in-err-tested-enrol.ensures.tested) refl })
+    rw (p.1, p.2) (record { called = called_refused s _ (enrol c.args.qse c.args.load) _ (three_refuse (not s.drafted) (numbered c.args.qse) (load_within c.args.load) DraftOpen NumberOutOfRange FigureOutOfRange _ (unless (fits qse_of s.qse_slots c.args.qse s.qses) NoFreeSlot None) c.in_err-tested_enrol.ensures.tested) refl })
 
-pub invariant-of-self : goal.invariant-of-self
-invariant-of-self c =
+pub invariant_of-self : goal.invariant_of-self
+invariant_of-self c =
     let b = c.args.self.now in
-    let t = c.in-ok-tested-enrol.ensures.tested in
+    let t = c.in_ok-tested_enrol.ensures.tested in
     let sound = ap account_sound c.enrolled-account.ensures.answer ∙ enrolled_sound c.args.qse c.args.load (rows b.accounts) c.get.result (c.get.ensures.answer b.accounting) b.accounting.2 t.1.0 t.1.1 in
-    (c.put.ensures.sound b.accounting sound, (b.resourcing, (omega (arith, c.put.ensures.capacity, b.few_qses), (b.few_resources, tt))))
+    record { accounting = c.put.ensures.sound b.accounting sound; resourcing = b.resourcing; few_qses = omega (arith, c.put.ensures.capacity, b.few_qses); few_resources = b.few_resources }
 
 pub returns-in-Ok : goal.returns-in-Ok
 returns-in-Ok c =
     let b = c.args.self.now in
-    let t = c.in-ok-tested-enrol.ensures.tested in
+    let t = c.in_ok-tested_enrol.ensures.tested in
     record { called = enrol_put (view b) c.args.qse c.args.load (capacity c.put.new.self) c.get.result c.enrolled-account.result (rows c.put.new.self) c.put.result t.0 (c.get.ensures.answer b.accounting) c.enrolled-account.ensures.answer c.in-Ok.is (c.put.ensures.answer b.accounting) (c.put.ensures.after b.accounting) c.put.ensures.capacity }
 
 pub returns-in-Err : goal.returns-in-Err
 returns-in-Err c =
     let b = c.args.self.now in
-    let t = c.in-ok-tested-enrol.ensures.tested in
+    let t = c.in_ok-tested_enrol.ensures.tested in
     record { called = enrol_full (view b) c.args.qse c.args.load (capacity c.put.new.self) c.get.result c.enrolled-account.result (rows c.put.new.self) c.put.result _ t.0 (c.get.ensures.answer b.accounting) c.enrolled-account.ensures.answer c.in-Err.is (c.put.ensures.answer b.accounting) (c.put.ensures.after b.accounting) c.put.ensures.capacity }

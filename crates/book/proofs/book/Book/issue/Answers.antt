@@ -20,10 +20,10 @@ lines_kept : (xs : List Account) → map (λ (a : Account). let l : Line = recor
 lines_kept [] = refl
 lines_kept (x ∷ xs) = ap (λ r. record { qse = x.row.number; figures = line_of x } ∷ r) (lines_kept xs)
 
-pub invariant-of-self : goal.invariant-of-self
-invariant-of-self c =
+pub invariant_of-self : goal.invariant_of-self
+invariant_of-self c =
     let b = c.args.self.now in
-    (c.bill-table.ensures.sound b.accounting, (b.resourcing, (omega (arith, b.few_qses, c.bill-table.ensures.capacity), (b.few_resources, tt))))
+    record { accounting = c.bill_table.ensures.sound b.accounting; resourcing = b.resourcing; few_qses = omega (arith, b.few_qses, c.bill_table.ensures.capacity); few_resources = b.few_resources }
 
 pub returns-in-Err : goal.returns-in-Err
 returns-in-Err c =
@@ -34,8 +34,8 @@ pub returns-in-Ok : goal.returns-in-Ok
 returns-in-Ok c =
     let b = c.args.self.now in
     let s = view b in
-    let all = c.bill-table.ensures.after b.accounting in
-    let room = c.bill-table.ensures.capacity in
+    let all = c.bill_table.ensures.after b.accounting in
+    let room = c.bill_table.ensures.capacity in
     let lines = ap (map (λ (a : Account). let l : Line = record { qse = a.row.number; figures = a.line } in l)) all ∙ lines_kept (rows b.accounts) in
     let k = called_granted s _ (issue c.args.draft.book) _ c.in-Ok.ensures.tested.0 (ap stated lines) (λ i. record { number = s.number; qse_slots = room i; resource_slots = s.resource_slots; qses = all i; resources = s.resources; prices = s.prices; drafted = false; issued = true }) in
     record { called = k; back = tt; law = law_after k }

@@ -17,35 +17,35 @@ use Rattle.admission.proofs.Passing.{three_refuse}
 use Rattle.book.proofs.Accounts.{supplied_sound, quantities_unknown, quantities_put}
 use Rattle.book.proofs.book.Book.quantities.Goals as goal
 
-pub returns-in-err-service : goal.returns-in-err-service
-returns-in-err-service c =
-    let p = err_from_is_err_and c.from-residual.result c.from-residual.ensures.1 in
+pub returns-in_err-service : goal.returns-in_err-service
+returns-in_err-service c =
+    let p = err_from_is_err_and c.from_residual.result c.from_residual.ensures.1 in
     let s = view c.args.self.now in
-    rw (p.1, p.2) (record { called = called_refused s _ (quantities c.args.qse c.args.service c.args.bare) _ (three_refuse (not s.drafted) (numbered c.args.qse) (is_ok (service_of c.args.service) && quantities_within c.args.bare) DraftOpen NumberOutOfRange FigureOutOfRange _ (unless (known qse_of c.args.qse s.qses) NotEnrolled None) c.in-err-service.ensures.tested) refl })
+    rw (p.1, p.2) (record { called = called_refused s _ (quantities c.args.qse c.args.service c.args.bare) _ (three_refuse (not s.drafted) (numbered c.args.qse) (is_ok (service_of c.args.service) && quantities_within c.args.bare) DraftOpen NumberOutOfRange FigureOutOfRange _ (unless (known qse_of c.args.qse s.qses) NotEnrolled None) c.in_err-service.ensures.tested) refl })
 
-pub returns-in-default : goal.returns-in-default
-returns-in-default c =
+pub returns-in_default : goal.returns-in_default
+returns-in_default c =
     let b = c.args.self.now in
-    let t = c.in-ok-service.ensures.tested in
-    record { called = called_refused (view b) _ (quantities c.args.qse c.args.service c.args.bare) NotEnrolled (quantities_unknown (view b) c.args.qse c.args.service c.args.bare c.get.result t.0 (c.get.ensures.answer b.accounting) c.in-default.is) refl }
+    let t = c.in_ok-service.ensures.tested in
+    record { called = called_refused (view b) _ (quantities c.args.qse c.args.service c.args.bare) NotEnrolled (quantities_unknown (view b) c.args.qse c.args.service c.args.bare c.get.result t.0 (c.get.ensures.answer b.accounting) c.in_default.is) refl }
 
 -- the account that is put
 given : (v : Service) (ten : BareQuantities) (q : ByService BareQuantities) (a : Account) → q ≡ with_service v ten a.row.quantities → record { row = record { number = a.row.number; load = a.row.load; quantities = q }; settled = a.settled; billed = a.billed; line = a.line } ≡ with_quantities v ten a
 given v ten q a e = ap (λ (x : ByService BareQuantities). record { row = record { number = a.row.number; load = a.row.load; quantities = x }; settled = a.settled; billed = a.billed; line = a.line }) e
 
-pub invariant-of-self : goal.invariant-of-self
-invariant-of-self c =
+pub invariant_of-self : goal.invariant_of-self
+invariant_of-self c =
     let b = c.args.self.now in
-    let t = c.in-ok-service.ensures.tested in
+    let t = c.in_ok-service.ensures.tested in
     let a = c.in-Some.account in
-    let v = c.in-ok-service.service in
+    let v = c.in_ok-service.service in
     let sound = ap account_sound (given v c.args.bare c.set.new.self a c.set.ensures.after) ∙ supplied_sound c.args.qse v c.args.bare (rows b.accounts) c.get.result a (c.get.ensures.answer b.accounting) c.in-Some.is b.accounting.2 t.1.1 in
-    (c.put.ensures.sound b.accounting sound, (b.resourcing, (omega (arith, c.put.ensures.capacity, b.few_qses), (b.few_resources, tt))))
+    record { accounting = c.put.ensures.sound b.accounting sound; resourcing = b.resourcing; few_qses = omega (arith, c.put.ensures.capacity, b.few_qses); few_resources = b.few_resources }
 
 pub returns : goal.returns
 returns c =
     let b = c.args.self.now in
-    let t = c.in-ok-service.ensures.tested in
+    let t = c.in_ok-service.ensures.tested in
     let a = c.in-Some.account in
-    let v = c.in-ok-service.service in
+    let v = c.in_ok-service.service in
     record { called = quantities_put (view b) c.args.qse c.args.service (capacity c.put.new.self) v c.args.bare c.get.result a _ (rows c.put.new.self) t.0 t.1.0 (c.get.ensures.answer b.accounting) c.in-Some.is (given v c.args.bare c.set.new.self a c.set.ensures.after) (c.put.ensures.after b.accounting) c.put.ensures.capacity }

@@ -9,17 +9,17 @@ use Rattle.book.proofs.Entering.{with_table_lem, strike_refused, strike_granted,
 use Rattle.admission.proofs.Passing.{went_ok, went_err}
 use Rattle.book.proofs.book.Book.strike.Goals as goal
 
-pub returns-in-err-tested-strike : goal.returns-in-err-tested-strike
-returns-in-err-tested-strike c =
-    let p = err_from_is_err_and c.from-residual.result c.from-residual.ensures.1 in
+pub returns-in_err-tested_strike : goal.returns-in_err-tested_strike
+returns-in_err-tested_strike c =
+    let p = err_from_is_err_and c.from_residual.result c.from_residual.ensures.1 in
     let s = view c.args.self.now in
-    rw (p.1, p.2) (record { called = called_refused s _ (strike c.args.resource) _ (strike_refused s c.args.resource _ c.in-err-tested-strike.ensures.tested) refl })
+    rw (p.1, p.2) (record { called = called_refused s _ (strike c.args.resource) _ (strike_refused s c.args.resource _ c.in_err-tested_strike.ensures.tested) refl })
 
 -- the table of resources stays sound and as large as it was
-pub invariant-of-self : goal.invariant-of-self
-invariant-of-self c =
+pub invariant_of-self : goal.invariant_of-self
+invariant_of-self c =
     let b = c.args.self.now in
-    (b.accounting, (c.remove.ensures.sound b.resourcing, (b.few_qses, (rw c.remove.ensures.capacity b.few_resources, tt))))
+    record { accounting = b.accounting; resourcing = c.remove.ensures.sound b.resourcing; few_qses = b.few_qses; few_resources = rw c.remove.ensures.capacity b.few_resources }
 
 pub returns-in-Ok : goal.returns-in-Ok
 returns-in-Ok c =
@@ -27,7 +27,7 @@ returns-in-Ok c =
     let n = c.args.resource in
     let s = view b in
     let k = went_ok _ _ _ _ (c.in-Ok.ensures.answer b.resourcing) in
-    record { called = called_granted s _ (strike n) done (strike_granted s n c.in-ok-tested-strike.ensures.tested.0 k) refl (with_table_lem s _ _ _ c.remove.ensures.capacity (c.remove.ensures.after b.resourcing)) }
+    record { called = called_granted s _ (strike n) done (strike_granted s n c.in_ok-tested_strike.ensures.tested.0 k) refl (with_table_lem s _ _ _ c.remove.ensures.capacity (c.remove.ensures.after b.resourcing)) }
 
 pub returns-in-Err : goal.returns-in-Err
 returns-in-Err c =
@@ -35,4 +35,4 @@ returns-in-Err c =
     let n = c.args.resource in
     let s = view b in
     let k = went_err _ _ _ _ (c.in-Err.ensures.answer b.resourcing) in
-    record { called = called_refused s _ (strike n) NoSuchResource (strike_absent s n c.in-ok-tested-strike.ensures.tested.0 k) (with_table_lem s _ _ s.resources c.remove.ensures.capacity (c.remove.ensures.after b.resourcing ∙ removed_absent resource_of n s.resources k)) }
+    record { called = called_refused s _ (strike n) NoSuchResource (strike_absent s n c.in_ok-tested_strike.ensures.tested.0 k) (with_table_lem s _ _ s.resources c.remove.ensures.capacity (c.remove.ensures.after b.resourcing ∙ removed_absent resource_of n s.resources k)) }

@@ -6,8 +6,8 @@ use Rattle.feed.proofs.words.words_of.Goals as goal
 pub loop-word-init : goal.loop-word-init
 loop-word-init c = (refl, refl, refl)
 
-pub returns-in-default : goal.returns-in-default
-returns-in-default c =
+pub returns-in_default : goal.returns-in_default
+returns-in_default c =
     let left = c.loop-word.left.now in
     let i = c.loop-word.word-index in
     let ws = c.loop-word.words in
@@ -20,10 +20,10 @@ loop-word-preserved c =
     let left = c.loop-word.left.now in
     let rest = take (length left - 4) (drop 4 left) in
     let i = c.loop-word.word-index in
-    let w = c.from-le-bytes.result in
+    let w = c.from_le_bytes.result in
     let ws = c.loop-word.words in
     let enough : 4 ≤ length left = search rules in
-    (omega (arith, c.loop-word.invariant.0), words_step c.args.bytes.now left rest i w ws (omega arith) c.loop-word.invariant.1 (words_more left w enough c.from-le-bytes.ensures), room_step i w c.args.words.now ws c.loop-word.invariant.2)
+    (omega (arith, c.loop-word.invariant.0), words_step c.args.bytes.now left rest i w ws (omega arith) c.loop-word.invariant.1 (words_more left w enough c.from_le_bytes.ensures), room_step i w c.args.words.now ws c.loop-word.invariant.2)
 
 pub returns : goal.returns
 returns c =

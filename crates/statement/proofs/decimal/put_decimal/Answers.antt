@@ -5,8 +5,8 @@ use Rattle.statement.proofs.Digits.{digits_few, spelled_second, spelled_more, sp
 use Rattle.statement.proofs.Places.{renamed}
 use Rattle.statement.proofs.decimal.put_decimal.Goals as goal
 
-pub overflow-sub-first : goal.overflow-sub-first
-overflow-sub-first c = spelled_second c.args.number c.loop-front.front c.loop-front.first c.loop-front.digits (omega arith) c.loop-front.invariant c.loop-front-test.true
+pub overflow_sub-first : goal.overflow_sub-first
+overflow_sub-first c = spelled_second c.args.number c.loop-front.front c.loop-front.first c.loop-front.digits (omega arith) c.loop-front.invariant c.loop-front-test.true
 
 pub loop-front-preserved : goal.loop-front-preserved
 loop-front-preserved c = spelled_more c.args.number c.loop-front.front c.loop-front.first c.loop-front.digits (omega arith) c.loop-front.invariant c.loop-front-test.true
@@ -17,5 +17,5 @@ returns c =
     let size = length-set c.loop-front.digits c.loop-front.first (48 + c.loop-front.front) in
     let all = between_to_end digits c.loop-front.first 20 (omega arith) ∙ spelled_all c.args.number c.loop-front.front c.loop-front.first c.loop-front.digits (omega arith) c.loop-front.invariant c.loop-front-test.false in
     let few = digits_few c.args.number (omega arith) in
-    let end = c.put-bytes.ensures.end ∙ ap (λ ds. c.args.at + length ds) all in
-    record { written = renamed all c.put-bytes.ensures.written; end = omega arith }
+    let end = c.put_bytes.ensures.end ∙ ap (λ ds. c.args.at + length ds) all in
+    record { written = renamed all c.put_bytes.ensures.written; end = omega arith }

@@ -11,5 +11,5 @@ below_zero (negsuc n) h = refl
 pub returns-then-number-lt0 : goal.returns-then-number-lt0
 returns-then-number-lt0 c =
     let h : c.args.number <ℤ pos 0 = grind (arith, ints) in
-    let size = c.unsigned-abs.ensures.value ∙ ap nat_abs (to_z-of_z w64 c.args.number c.ranges.number) in
-    record { written = renamed (ap (λ n. 45 ∷ decimal n) size ∙ below_zero c.args.number h) (followed c.put-bytes-end.ensures.written c.put-decimal.ensures.written); end = omega arith }
+    let size = c.unsigned_abs.ensures.value ∙ ap nat_abs (to_z-of_z w64 c.args.number c.ranges.number) in
+    record { written = renamed (ap (λ n. 45 ∷ decimal n) size ∙ below_zero c.args.number h) (followed c.put_bytes-end.ensures.written c.put_decimal.ensures.written); end = omega arith }

@@ -8,9 +8,9 @@ loop-word-init c = sym (append-nil (vec_items c.args.bytes.now))
 
 pub loop-word-preserved : goal.loop-word-preserved
 loop-word-preserved c =
-    c.in-ok-extend-from-slice.ensures.items
-    ∙ bytes_more (vec_items c.loop-word.bytes) (vec_items c.args.bytes.now) _ c.as-slice-word-items.result.now c.loop-word.word-index c.loop-word-test.true c.loop-word.invariant c.to-le-bytes.ensures
+    c.in_ok-extend_from_slice.ensures.items
+    ∙ bytes_more (vec_items c.loop-word.bytes) (vec_items c.args.bytes.now) _ c.as_slice-word-items.result.now c.loop-word.word-index c.loop-word-test.true c.loop-word.invariant c.to_le_bytes.ensures
 
 pub returns : goal.returns
 returns c =
-    record { appended = c.loop-word.invariant ∙ ap (λ (ws : List ℕ). vec_items c.args.bytes.now ++ bytes_of ws) (take_all _ _ c.loop-word-test.false ∙ c.as-slice-word-items.ensures.answer ∙ c.packed-words.ensures.words) }
+    record { appended = c.loop-word.invariant ∙ ap (λ (ws : List ℕ). vec_items c.args.bytes.now ++ bytes_of ws) (take_all _ _ c.loop-word-test.false ∙ c.as_slice-word-items.ensures.answer ∙ c.packed-words.ensures.words) }

@@ -5,11 +5,11 @@ use Rattle.pack.proofs.text.packed_text.Goals as goal
 pub loop-before-init : goal.loop-before-init
 loop-before-init c = ([], c.new-bytes.ensures.items)
 
-pub loop-before-preserved-in-ok-append : goal.loop-before-preserved-in-ok-append
-loop-before-preserved-in-ok-append c =
+pub loop-before-preserved-in_ok-append : goal.loop-before-preserved-in_ok-append
+loop-before-preserved-in_ok-append c =
     let gs = c.loop-before.invariant.0 in
     let g = c.in-Some-read.group in
-    (gs ++ (g ∷ []), group_more gs g _ _ c.loop-before.invariant.1 c.in-ok-append.ensures.appended)
+    (gs ++ (g ∷ []), group_more gs g _ _ c.loop-before.invariant.1 c.in_ok-append.ensures.appended)
 
 pub loop-before-preserved : goal.loop-before-preserved
 loop-before-preserved c = c.loop-before.invariant

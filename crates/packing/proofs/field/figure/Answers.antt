@@ -4,8 +4,8 @@ use Rattle.packing.proofs.field.figure.Goals as goal
 
 pub returns-in-Ok : goal.returns-in-Ok
 returns-in-Ok c =
-    record { answer = c.check.ensures.answer ∙ parsed c.args.field.now _ _ (sym c.if-not-is-numeral.ensures.answer) c.parse.ensures.value.0 c.in-Ok.is }
+    record { answer = c.check.ensures.answer ∙ parsed c.args.field.now _ _ (sym c.if-not-is_numeral.ensures.answer) c.parse.ensures.value.0 c.in-Ok.is }
 
 pub returns-in-Err : goal.returns-in-Err
 returns-in-Err c =
-    record { answer = unparsed c.args.field.now _ _ (sym c.if-not-is-numeral.ensures.answer) c.parse.ensures.value.0 c.in-Err.is }
+    record { answer = unparsed c.args.field.now _ _ (sym c.if-not-is_numeral.ensures.answer) c.parse.ensures.value.0 c.in-Err.is }

@@ -2,7 +2,7 @@
 use std::io;
 use terms::refusal::Refusal;
 
-#[derive(Drop)]
+#[derive(Debug, Drop)]
 pub(crate) enum Failure {
     // the input could not be read, or the output not written
     Io(io::Error),

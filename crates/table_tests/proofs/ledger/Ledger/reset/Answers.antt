@@ -19,7 +19,7 @@ returns-in-Some c =
     let s = c.args.self.now.metered in
     let h = found_there n c.in-Some.place held (c.in-Some.ensures.answer s) in
     let stands : holds meter_number n (slice_get held c.in-Some.place) ≡ true = rw h.1 (holds_at_rank meter_number n held s.1 h.0) in
-    let said : c.is-ok.result ≡ true = c.is-ok.ensures.value ∙ ap is_ok (c.update.ensures.answer ∙ cond-true _ _ _ stands) in
+    let said : c.is_ok.result ≡ true = c.is_ok.ensures.value ∙ ap is_ok (c.update.ensures.answer ∙ cond-true _ _ _ stands) in
     record {
       answer = said ∙ sym h.0;
       after = c.update.ensures.after s ∙ cond-true _ _ _ stands ∙ sym (cond-true _ _ _ said);

@@ -1,8 +1,8 @@
 -- How a call in code meets what every call promises.
-use Rattle.std.proofs.Common.{◌≡◌, ◌∷◌, Some, None, Option, sym, refl, ap, ◌∙◌, subst}
+use Rattle.std.proofs.Common.{◌≡◌, ◌∷◌, Some, None, sym, ap, ◌∙◌, subst}
 use Rattle.terms.specs.declared.refusal.Refusal.{Refusal}
 use Rattle.history.specs.Calls.{State, Call, Answer, refused, refusal, granted, carried_out, answer, after, answer_by, state_by}
-use Rattle.history.specs.Histories.{History, Lived, then}
+use Rattle.history.specs.Histories.{Lived, then}
 use Rattle.history.specs.Called.{Called}
 
 -- an answer and a state that are the definitions' make a call

@@ -1,5 +1,5 @@
 -- The distinction law.
-use Rattle.std.proofs.Common.{◌≡◌, ℕ, suc, ◌+◌, ◌<◌, ◌≤◌, Bool, true, false, cond, ◌&&◌, eqb, List, [], ◌∷◌, map, ℤ, pos, negsuc, ◌+ℤ◌, nat_abs, is_some as option_is_some, Some, None, Ok, Err, sum, count_by, Option, Result, unwrap_or, sym, refl, ap, ◌∙◌, subst, arith}
+use Rattle.std.proofs.Common.{◌≡◌, ℕ, suc, ◌≤◌, Bool, true, false, cond, ◌&&◌, eqb, List, [], ◌∷◌, map, ℤ, pos, negsuc, nat_abs, Some, None, sum, Option, unwrap_or, sym, refl, ap, ◌∙◌, subst, arith}
 use Rattle.std.specs.Option.{option_map}
 use Rattle.std.proofs.lemmas.Int.{ints}
 use Rattle.std.proofs.lemmas.Bool.Decides.{nat_tests}
@@ -7,34 +7,32 @@ use Rattle.terms.specs.declared.service.Service.{Service}
 use Rattle.terms.specs.declared.service.Service.TheVariants.{RegUp, RegDown, Responsive, NonSpin, Ecrs}
 use Rattle.terms.specs.declared.service.ByService.{ByService}
 use Rattle.terms.specs.declared.class.Class.{Class}
-use Rattle.terms.specs.declared.refusal.Refusal.{Refusal}
 use Rattle.market.specs.declared.resource.ResourceRow.{ResourceRow}
 use Rattle.market.specs.declared.figures.BareFigures.{BareFigures}
 use Rattle.market.specs.declared.quantities.BareQuantities.{BareQuantities}
 use Rattle.market.specs.declared.prices.BarePrices.{BarePrices}
-use Rattle.terms.specs.Services.{service_of, of}
-use Rattle.terms.specs.Classes.{class_of, class_number}
+use Rattle.terms.specs.Services.{of}
+use Rattle.terms.specs.Classes.{class_number}
 use Rattle.market.specs.Limits.{quantities_within}
 use Rattle.market.specs.Bare.{no_quantities}
 use Rattle.market.proofs.Within.{quantities_at_most}
 use Rattle.editions.specs.Meaning.{Meaning}
 use Rattle.charges.specs.Section.{Between}
 use Rattle.apportion.specs.Shares.{share}
-use Rattle.table.specs.Rows.{Rising, found}
-use Rattle.table.proofs.Laws.{found_number}
+use Rattle.table.specs.Rows.{found}
 use Rattle.history.specs.declared.account.Account.{Account}
-use Rattle.history.specs.Settlement.{by_service, sum_z, counts_for, counted_sum, charge_for, charges_for, loads, map_from, settled_account, settled_accounts}
-use Rattle.history.specs.Calls.{State, Line, Call, enrol, quantities, enter, strike, prices, interval, draft, issue, drop, Answer, refused, done, stated, qse_of, settled_under}
+use Rattle.history.specs.Settlement.{by_service, sum_z, counts_for, charge_for, charges_for, loads, map_from, settled_account, settled_accounts}
+use Rattle.history.specs.Calls.{State, Line, enrol, quantities, enter, strike, prices, interval, draft, issue, drop, refused, done, stated, qse_of, settled_under}
 use Rattle.history.specs.Histories.{History, Lived, load_of, quantities_of, rows, prices_of, charge_at, same_figures, is_one, occurrences, last_issue, last_draft, billed_of, redraft, reissue}
 use Rattle.history.specs.Law.{PutUnder, SameQses, SamePrices, RowsMatch, SameBills, DistinctionLaw, LawAt}
 use Rattle.history.proofs.Lists.{count_by_sum_z, sum_z_cong, same_counts_same_sums, rising_same_lookups}
 use Rattle.history.proofs.Living.{Kept, lived_keep}
-use Rattle.history.proofs.Words.{row_in, quantities_in, load_agrees, quantities_agree, prices_agree, is_some}
-use Rattle.history.proofs.Issues.{DraftOf, draft_behind, rows_agree, pair_in, billed_in, settled_in, billed_is, IssuedAt, Unissued, IssueOf, issue_behind}
+use Rattle.history.proofs.Words.{row_in, quantities_in, load_agrees, quantities_agree, prices_agree}
+use Rattle.history.proofs.Issues.{DraftOf, draft_behind, rows_agree, pair_in, settled_in, billed_is, IssueOf, issue_behind}
 use Rattle.history.proofs.Totals.{of_by_service}
 use Rattle.history.proofs.Reissue.{every_edition}
 use Rattle.history.proofs.Orphans.{under, no_orphans}
-use Rattle.history.proofs.Balance.{charge_agrees, loaded_found, row_settled, balance_law}
+use Rattle.history.proofs.Balance.{charge_agrees, row_settled, balance_law}
 
 -- an edition put under the last issue changes what lies behind it, and nothing older
 reissue_last : (e : Meaning) (lines : List Line) (h b : History) → last_issue h ≡ Some b → last_issue (reissue e lines h) ≡ Some (redraft e b)

@@ -1,5 +1,5 @@
 -- What lies behind an open draft and behind the last issue, and what the lines of all statements add up to.
-use Rattle.std.proofs.Common.{◌≡◌, ℕ, suc, ◌+◌, ◌<◌, Bool, true, false, cond, not, ◌&&◌, eqb, List, [], ◌∷◌, map, ℤ, pos, ◌+ℤ◌, ◌-ℤ◌, is_some, is_ok, Some, None, Ok, Err, Option, Result, unwrap_or, sym, refl, ap, ◌∙◌, subst, arith}
+use Rattle.std.proofs.Common.{◌≡◌, ℕ, suc, Bool, true, false, cond, not, ◌&&◌, eqb, List, [], ◌∷◌, map, ℤ, pos, ◌+ℤ◌, ◌-ℤ◌, is_ok, Some, None, Ok, Err, Option, Result, sym, refl, ap, ◌∙◌, subst, arith}
 use Rattle.std.specs.Option.{option_map}
 use Rattle.std.proofs.lemmas.Int.{ints}
 use Rattle.std.proofs.lemmas.Bool.Decides.{nat_tests}
@@ -7,7 +7,7 @@ use Rattle.terms.specs.declared.service.Service.{Service}
 use Rattle.terms.specs.declared.class.Class.{Class}
 use Rattle.terms.specs.declared.service.ByService.{ByService}
 use Rattle.terms.specs.declared.refusal.Refusal.{Refusal}
-use Rattle.terms.specs.declared.refusal.Refusal.TheVariants.{DraftOpen, NumberOutOfRange, FigureOutOfRange, NotEnrolled, NoSuchResource, NoFreeSlot, OtherBook, NoDraft}
+use Rattle.terms.specs.declared.refusal.Refusal.TheVariants.{DraftOpen, NumberOutOfRange, FigureOutOfRange, NotEnrolled, NoSuchResource, NoFreeSlot}
 use Rattle.market.specs.declared.resource.ResourceRow.{ResourceRow}
 use Rattle.market.specs.declared.figures.BareFigures.{BareFigures}
 use Rattle.market.specs.declared.quantities.BareQuantities.{BareQuantities}
@@ -17,16 +17,16 @@ use Rattle.terms.specs.Intervals.{interval_of}
 use Rattle.terms.specs.Classes.{class_of}
 use Rattle.market.specs.Limits.{numbered, load_within, quantities_within, figures_within, service_prices_within, interval_prices_within}
 use Rattle.editions.specs.Meaning.{Meaning}
-use Rattle.table.specs.Rows.{Rising, found, known, fits, put, removed}
+use Rattle.table.specs.Rows.{Rising, found, known, fits, put}
 use Rattle.table.proofs.Laws.{found_number, found_put_same, found_put_other}
 use Rattle.history.specs.declared.account.Account.{Account}
-use Rattle.history.specs.Settlement.{sum_z, by_service, over_services, less, line_of, map_from, settled_account, settled_accounts, billed_account}
-use Rattle.history.specs.Calls.{State, Line, Call, enrol, quantities, enter, strike, prices, interval, draft, issue, drop, Answer, refused, done, stated, qse_of, resource_of, refusal, carried_out, granted, answer_by, state_by, answer, after, opened, with_read, supplied, enrolled, new_account, with_quantities, with_load, unless, settled_under, statement, with_resources}
-use Rattle.history.specs.Histories.{History, Lived, opening, then, taken, rows, rows_after, newer, without, is_draft, edition_of, or_older, last_draft, last_issue, is_statement, lines_of, line_figure, billed_figure, billed_of, total_figure, charge, credit}
-use Rattle.history.proofs.Lists.{sum_z_others, sum_z_put_others, sum_z_removed_others, sum_z_found, value_z, sum_z_map, sum_z_cong, sum_z_put_new, sum_z_put_same}
+use Rattle.history.specs.Settlement.{sum_z, over_services, less, line_of, map_from, settled_account, billed_account}
+use Rattle.history.specs.Calls.{State, Line, Call, enrol, quantities, enter, strike, prices, interval, draft, issue, drop, Answer, qse_of, resource_of, refusal, carried_out, granted, answer_by, state_by, with_read, supplied, enrolled, new_account, with_quantities, with_load, unless, settled_under, statement, with_resources}
+use Rattle.history.specs.Histories.{History, Lived, opening, then, rows, rows_after, newer, without, is_draft, edition_of, or_older, last_draft, last_issue, is_statement, lines_of, line_figure, billed_figure, billed_of, total_figure, charge, credit}
+use Rattle.history.proofs.Lists.{sum_z_others, sum_z_put_others, sum_z_removed_others, sum_z_found, value_z, sum_z_map, sum_z_put_new, sum_z_put_same}
 use Rattle.history.proofs.Reissue.{drafted_before_issue}
 use Rattle.history.proofs.Totals.{billed_charges, billed_credits, settled_charges, settled_credits, settled_billed_charges, settled_billed_credits, billed_charges_lem, billed_credits_lem, statement_charges, statement_credits, of_by_service}
-use Rattle.history.proofs.Living.{Kept, read_keep, lived_keep, by_refusal}
+use Rattle.history.proofs.Living.{Kept, read_keep, lived_keep}
 use Rattle.history.proofs.Words.{by_answer, granted_taken, enrolled_number, of_always}
 
 -- a book whose first test is that no draft is open has none where it goes on

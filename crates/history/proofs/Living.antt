@@ -1,26 +1,21 @@
 -- What every lived book keeps, and how its state and the words of its history agree.
-use Rattle.std.proofs.Common.{◌≡◌, ℕ, suc, ◌+◌, ◌<◌, Bool, true, false, cond, not, ◌&&◌, eqb, ◌⊎◌, List, [], ◌∷◌, map, length, get_or, ℤ, pos, ◌+ℤ◌, ◌-ℤ◌, is_some, is_ok, Some, None, Ok, Err, Option, Result, unwrap_or, sym, refl, ap, ◌∙◌, subst, inl, inr, arith}
-use Rattle.std.specs.Option.{option_map}
+use Rattle.std.proofs.Common.{◌≡◌, ℕ, suc, ◌<◌, List, [], ◌∷◌, map, length, get_or, Some, None, Ok, Err, Option, Result, sym, refl, ap, ◌∙◌, subst, arith}
 use Rattle.std.proofs.lemmas.List.{length-map}
-use Rattle.std.proofs.lemmas.Bool.Decides.{nat_tests}
 use Rattle.terms.specs.declared.service.Service.{Service}
-use Rattle.terms.specs.declared.class.Class.{Class}
 use Rattle.terms.specs.declared.refusal.Refusal.{Refusal}
-use Rattle.market.specs.declared.qse.QseRow.{QseRow}
 use Rattle.market.specs.declared.resource.ResourceRow.{ResourceRow}
-use Rattle.market.specs.declared.figures.BareFigures.{BareFigures}
 use Rattle.market.specs.declared.quantities.BareQuantities.{BareQuantities}
 use Rattle.market.specs.declared.prices.BarePrices.{BarePrices}
-use Rattle.terms.specs.Services.{service_of, of}
+use Rattle.terms.specs.Services.{service_of}
 use Rattle.terms.specs.Intervals.{interval_of}
 use Rattle.terms.specs.Classes.{class_of}
 use Rattle.editions.specs.Meaning.{Meaning}
-use Rattle.table.specs.Rows.{Rising, found, known, put, removed}
-use Rattle.table.proofs.Laws.{found_number, found_put_same, found_put_other, found_removed_same, found_removed_other, rising_put, rising_removed}
+use Rattle.table.specs.Rows.{Rising, found}
+use Rattle.table.proofs.Laws.{rising_put, rising_removed}
 use Rattle.history.specs.declared.account.Account.{Account}
-use Rattle.history.specs.Settlement.{settled_accounts, settled_account, map_from, billed_account}
-use Rattle.history.specs.Calls.{State, Call, enrol, quantities, enter, strike, prices, interval, draft, issue, drop, Answer, refused, done, stated, qse_of, resource_of, refusal, carried_out, granted, answer_by, state_by, answer, after, opened, with_read, supplied, enrolled, with_quantities}
-use Rattle.history.specs.Histories.{History, Lived, opening, then, taken, or_else, newest}
+use Rattle.history.specs.Settlement.{settled_account, map_from, billed_account}
+use Rattle.history.specs.Calls.{State, Call, enrol, quantities, enter, strike, prices, interval, draft, issue, drop, qse_of, resource_of, refusal, carried_out, state_by, with_read, supplied, enrolled, with_quantities}
+use Rattle.history.specs.Histories.{History, Lived, opening, then}
 
 -- a refused call leaves the book, so what holds before and after a call that is carried out holds after any
 pub by_refusal : (P : State → Type 0) (o : Option Refusal) (s t : State) → P s → (o ≡ None → P t) → P (state_by o t s)

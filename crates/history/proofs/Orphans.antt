@@ -1,5 +1,5 @@
 -- Every resource of a lived book stands under a QSE that is enrolled.
-use Rattle.std.proofs.Common.{◌≡◌, ℕ, Bool, true, false, cond, not, ◌&&◌, eqb, List, [], ◌∷◌, map, ℤ, pos, ◌+ℤ◌, is_some, is_ok, Some, None, Option, sym, refl, ap, ◌∙◌, arith}
+use Rattle.std.proofs.Common.{◌≡◌, ℕ, Bool, true, false, cond, not, ◌&&◌, eqb, List, map, ℤ, pos, is_some, is_ok, Some, None, Option, sym, refl, ap, ◌∙◌, arith}
 use Rattle.std.specs.Option.{option_map}
 use Rattle.std.proofs.lemmas.Int.{ints}
 use Rattle.std.proofs.lemmas.Bool.Decides.{nat_tests}
@@ -7,21 +7,20 @@ use Rattle.terms.specs.declared.refusal.Refusal.{Refusal}
 use Rattle.terms.specs.declared.refusal.Refusal.TheVariants.{DraftOpen, NumberOutOfRange, FigureOutOfRange, NotEnrolled, NoFreeSlot}
 use Rattle.market.specs.declared.resource.ResourceRow.{ResourceRow}
 use Rattle.terms.specs.declared.service.Service.{Service}
-use Rattle.market.specs.declared.figures.BareFigures.{BareFigures}
 use Rattle.market.specs.declared.quantities.BareQuantities.{BareQuantities}
 use Rattle.terms.specs.Services.{service_of}
 use Rattle.terms.specs.Intervals.{interval_of}
 use Rattle.terms.specs.Classes.{class_of}
 use Rattle.market.specs.Limits.{numbered, figures_within}
-use Rattle.table.specs.Rows.{Rising, found, known, fits, put, removed}
+use Rattle.table.specs.Rows.{Rising, found, known, fits, put}
 use Rattle.table.proofs.Laws.{found_put_same, found_put_other}
 use Rattle.history.specs.declared.account.Account.{Account}
 use Rattle.history.specs.Settlement.{sum_z}
-use Rattle.history.specs.Calls.{State, Call, enrol, quantities, enter, strike, prices, interval, draft, issue, drop, qse_of, resource_of, refusal, carried_out, opened, supplied, enrolled, with_quantities, unless}
+use Rattle.history.specs.Calls.{State, Call, enrol, quantities, enter, strike, prices, interval, draft, issue, drop, qse_of, resource_of, refusal, carried_out, supplied, enrolled, with_quantities, unless}
 use Rattle.history.specs.Histories.{History, Lived, opening, then}
 use Rattle.history.proofs.Lists.{sum_z_cong, others, sum_z_others, sum_z_put_others, sum_z_removed_others}
 use Rattle.history.proofs.Living.{Kept, read_keep, lived_keep, by_refusal, settled_keep_rows, billed_keep_rows}
-use Rattle.history.proofs.Words.{row_in, row_by_rows}
+use Rattle.history.proofs.Words.{row_by_rows}
 
 -- what the rows of a QSE add up to
 abbrev pub under : ℕ → (ResourceRow → ℤ) → ResourceRow → ℤ

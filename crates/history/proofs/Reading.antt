@@ -1,5 +1,5 @@
 -- What "read" answers, and what a statement holds.
-use Rattle.std.proofs.Common.{◌≡◌, ℕ, Bool, true, false, cond, List, [], ◌∷◌, map, ℤ, pos, Some, None, Ok, Err, Option, Result, unwrap_or, sym, refl, ap, ◌∙◌, subst, arith}
+use Rattle.std.proofs.Common.{◌≡◌, ℕ, Bool, true, false, cond, List, [], ◌∷◌, map, pos, Some, None, Ok, Err, Option, Result, sym, refl, ap, ◌∙◌, subst, arith}
 use Rattle.std.specs.Option.{option_map}
 use Rattle.terms.specs.declared.service.Service.{Service}
 use Rattle.terms.specs.declared.refusal.Refusal.{Refusal}
@@ -9,11 +9,11 @@ use Rattle.terms.specs.Services.{service_of_letter, of}
 use Rattle.table.specs.Rows.{Rising, found}
 use Rattle.history.specs.declared.account.Account.{Account}
 use Rattle.history.specs.Settlement.{line_of}
-use Rattle.history.specs.Calls.{State, Line, Call, Answer, stated, qse_of, answer, after, statement, of_letter, of_account, read}
-use Rattle.history.specs.Histories.{History, Lived, opening, then, billed_of, lines_of, is_statement}
+use Rattle.history.specs.Calls.{State, Line, Call, Answer, stated, qse_of, answer, statement, of_letter, of_account}
+use Rattle.history.specs.Histories.{History, Lived, opening, then, lines_of, is_statement}
 use Rattle.history.specs.Law.{ReadLaw, StatementLaw}
 use Rattle.history.proofs.Living.{Kept, lived_keep, rising_alike}
-use Rattle.history.proofs.Issues.{pair_in, billed_in, billed_is}
+use Rattle.history.proofs.Issues.{pair_in, billed_is}
 use Rattle.history.proofs.Reissue.{alike_itself, alike_statement}
 
 -- a pair that is read is the billed pair of the account

@@ -1,6 +1,6 @@
 -- What a book answers, but for the lines of a statement, does not hang on what is settled, billed or stated. So every
 -- edition can be put under the last issue.
-use Rattle.std.proofs.Common.{◌≡◌, ℕ, suc, Bool, true, false, cond, not, eqb, ltb, List, [], ◌∷◌, map, length, is_some, Some, None, Ok, Err, Option, Result, sym, refl, ap, ◌∙◌, subst}
+use Rattle.std.proofs.Common.{◌≡◌, ℕ, Bool, true, false, cond, not, eqb, ltb, List, [], ◌∷◌, map, length, is_some, Some, None, Ok, Err, Option, Result, sym, refl, ap, ◌∙◌, subst}
 use lib.ListN.{length-map}
 use Rattle.std.proofs.lemmas.Bool.{both_ways, not-true}
 use Rattle.terms.specs.declared.service.Service.{Service}
@@ -16,7 +16,6 @@ use Rattle.terms.specs.Classes.{class_of}
 use Rattle.editions.specs.Meaning.{Meaning}
 use Rattle.table.specs.Rows.{found, known, put, fits}
 use Rattle.history.specs.declared.account.Account.{Account}
-use Rattle.history.specs.Settlement.{map_from, settled_account, settled_accounts, billed_account}
 use Rattle.history.specs.Calls.{State, Line, Call, enrol, quantities, enter, strike, prices, interval, draft, issue, drop, refused, done, stated}
 use Rattle.history.specs.Calls.{qse_of, enrolled, supplied, with_qses, with_resources, with_prices, billed_book, dropped, statement, unless, refusal, with_read, carried_out, granted, answer_by, state_by, answer, after, opened}
 use Rattle.history.specs.Histories.{History, Lived, opening, then, is_statement, redraft, reissue}

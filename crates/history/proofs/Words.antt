@@ -1,5 +1,5 @@
 -- The words of a history and the state that it leads to agree: loads, quantities, prices.
-use Rattle.std.proofs.Common.{◌≡◌, ℕ, suc, ◌+◌, ◌<◌, Bool, true, false, cond, not, ◌&&◌, eqb, List, [], ◌∷◌, map, is_some as option_is_some, is_ok, Some, None, Ok, Err, Option, Result, unwrap_or, sym, refl, ap, ◌∙◌, subst, arith}
+use Rattle.std.proofs.Common.{◌≡◌, ℕ, Bool, true, false, cond, not, ◌&&◌, eqb, List, [], ◌∷◌, map, is_some as option_is_some, is_ok, Some, None, Ok, Err, Option, Result, unwrap_or, sym, refl, ap, ◌∙◌, arith}
 use Rattle.std.specs.Option.{option_map}
 use Rattle.std.proofs.lemmas.Bool.Decides.{nat_tests}
 use Rattle.terms.specs.declared.service.Service.{Service}
@@ -9,24 +9,22 @@ use Rattle.terms.specs.declared.interval.ByInterval.{ByInterval}
 use Rattle.terms.specs.declared.service.ByService.{ByService}
 use Rattle.terms.specs.declared.interval.Interval.TheVariants.{First, Second, Third, Fourth}
 use Rattle.terms.specs.declared.refusal.Refusal.{Refusal}
-use Rattle.terms.specs.declared.refusal.Refusal.TheVariants.{DraftOpen, FigureOutOfRange, NumberOutOfRange, NotEnrolled, NoFreeSlot}
+use Rattle.terms.specs.declared.refusal.Refusal.TheVariants.{DraftOpen, FigureOutOfRange, NumberOutOfRange, NotEnrolled}
 use Rattle.market.specs.declared.qse.QseRow.{QseRow}
 use Rattle.market.specs.declared.quantities.BareQuantities.{BareQuantities}
 use Rattle.market.specs.declared.prices.BareServicePrices.{BareServicePrices}
 use Rattle.market.specs.declared.prices.BareIntervalPrices.{BareIntervalPrices}
-use Rattle.market.specs.declared.prices.BarePrices.{BarePrices}
 use Rattle.terms.specs.Services.{service_of, service_number, of, with_service}
 use Rattle.terms.specs.Intervals.{interval_of, interval_number, of_interval, with_interval}
 use Rattle.terms.specs.Classes.{class_of}
 use Rattle.market.specs.Limits.{numbered, quantities_within, service_prices_within, interval_prices_within}
 use Rattle.market.specs.Bare.{no_quantities, always, every_interval}
 use Rattle.terms.proofs.Settings.{of_with, service_number_lem, of_with_interval, interval_number_lem}
-use Rattle.editions.specs.Meaning.{Meaning}
-use Rattle.table.specs.Rows.{Rising, found, known, put, removed}
+use Rattle.table.specs.Rows.{found, known, put}
 use Rattle.table.proofs.Laws.{found_number, found_put_same, found_put_other}
 use Rattle.history.specs.declared.account.Account.{Account}
-use Rattle.history.specs.Settlement.{by_service, map_from, settled_account, billed_account}
-use Rattle.history.specs.Calls.{State, Call, enrol, quantities, enter, strike, prices, interval, draft, issue, drop, Answer, refused, done, stated, qse_of, refusal, carried_out, granted, answer_by, state_by, answer, after, opened, with_read, supplied, enrolled, with_quantities, unless}
+use Rattle.history.specs.Settlement.{by_service}
+use Rattle.history.specs.Calls.{State, Call, enrol, quantities, enter, strike, prices, interval, draft, issue, drop, Answer, qse_of, refusal, carried_out, granted, answer_by, state_by, opened, with_read, supplied, enrolled, with_quantities, unless}
 use Rattle.history.specs.Histories.{History, Lived, opening, then, taken, or_else, newest, when, sets_load, sets_quantities, sets_prices, sets_interval, load_of, quantities_of, service_prices_of, interval_prices_of, prices_of}
 use Rattle.history.proofs.Living.{Kept, read_keep, lived_keep, settled_keep_rows, billed_keep_rows}
 

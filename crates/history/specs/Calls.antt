@@ -1,12 +1,9 @@
 -- The book as a reader would draw it, the calls on it, what each answers and what it leaves.
-use Rattle.std.specs.Prelude.{ℕ, min, Bool, true, false, cond, not, ◌&&◌, List, [], ◌∷◌, map, ℤ, pos, is_some, is_ok, Some, None, Ok, Err, Option, Result, ◌==◌}
+use Rattle.std.specs.Prelude.{ℕ, min, Bool, true, false, cond, not, ◌&&◌, List, [], map, ℤ, pos, is_ok, Some, None, Ok, Err, Option, Result, ◌==◌}
 use Rattle.terms.specs.declared.service.Service.{Service}
 use Rattle.terms.specs.declared.service.ByService.{ByService}
-use Rattle.terms.specs.declared.interval.Interval.{Interval}
-use Rattle.terms.specs.declared.class.Class.{Class}
 use Rattle.terms.specs.declared.refusal.Refusal.{Refusal}
 use Rattle.terms.specs.declared.refusal.Refusal.TheVariants.{DraftOpen, NumberOutOfRange, FigureOutOfRange, NotEnrolled, NoSuchResource, NoFreeSlot, OtherBook, NoDraft}
-use Rattle.market.specs.declared.qse.QseRow.{QseRow}
 use Rattle.market.specs.declared.resource.ResourceRow.{ResourceRow}
 use Rattle.market.specs.declared.figures.BareFigures.{BareFigures}
 use Rattle.market.specs.declared.quantities.BareQuantities.{BareQuantities}
@@ -21,7 +18,7 @@ use Rattle.market.specs.Bare.{always, no_quantities, no_prices}
 use Rattle.editions.specs.Meaning.{Meaning}
 use Rattle.table.specs.Rows.{found, known, put, fits, removed}
 use Rattle.history.specs.declared.account.Account.{Account}
-use Rattle.history.specs.Settlement.{by_service, settled_accounts, line_of, billed_account}
+use Rattle.history.specs.Settlement.{settled_accounts, line_of, billed_account}
 
 -- the numbers by which accounts and resources are known
 abbrev pub qse_of : Account → ℕ

@@ -1,11 +1,9 @@
 -- Histories of a book, and the words of the law as functions of a history alone.
-use Rattle.std.specs.Prelude.{◌≡◌, ℕ, Bool, true, false, cond, not, ◌&&◌, List, [], ◌∷◌, ℤ, pos, ◌+ℤ◌, Some, None, Ok, Err, count_by, filter, Option, Result, ◌==◌}
+use Rattle.std.specs.Prelude.{ℕ, Bool, true, false, cond, not, ◌&&◌, List, [], ◌∷◌, ℤ, pos, ◌+ℤ◌, Some, None, Ok, Err, count_by, filter, Option, Result, ◌==◌}
 use Rattle.std.specs.Option.{unwrap_or}
 use Rattle.terms.specs.declared.service.Service.{Service}
-use Rattle.terms.specs.declared.service.ByService.{ByService}
 use Rattle.terms.specs.declared.interval.Interval.{Interval}
 use Rattle.terms.specs.declared.interval.Interval.TheVariants.{First, Second, Third, Fourth}
-use Rattle.terms.specs.declared.interval.ByInterval.{ByInterval}
 use Rattle.terms.specs.declared.class.Class.{Class}
 use Rattle.terms.specs.declared.refusal.Refusal.{Refusal}
 use Rattle.market.specs.declared.resource.ResourceRow.{ResourceRow}

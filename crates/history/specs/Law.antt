@@ -1,5 +1,5 @@
 -- The law over every history.
-use Rattle.std.specs.Prelude.{◌≡◌, ℕ, ◌<◌, Bool, true, ◌⊎◌, List, ◌∷◌, ℤ, pos, is_some, Some, None, Ok, Option}
+use Rattle.std.specs.Prelude.{◌≡◌, ℕ, ◌<◌, true, ◌⊎◌, List, ◌∷◌, pos, is_some, Some, None, Ok}
 use Rattle.terms.specs.declared.service.Service.{Service}
 use Rattle.terms.specs.declared.class.Class.{Class}
 use Rattle.market.specs.declared.figures.BareFigures.{BareFigures}

@@ -1,6 +1,6 @@
 -- Accounts that a call puts: they keep their limits, and the call is as defined.
-use Rattle.std.proofs.Common.{◌≡◌, ℕ, Bool, true, false, cond, not, ◌&&◌, List, is_some, is_ok, Some, None, Ok, Err, Option, Result, sym, refl, ap, ◌∙◌, arith}
-use Rattle.std.proofs.lemmas.Bool.{or_left, cond-true, cond-false}
+use Rattle.std.proofs.Common.{◌≡◌, ℕ, Bool, true, false, cond, not, ◌&&◌, List, is_some, is_ok, Some, None, Ok, Err, Option, Result, sym, refl, ap, ◌∙◌, subst, arith}
+use Rattle.std.proofs.lemmas.Bool.{or_left, cond-true, cond-false, cond_both}
 use Rattle.terms.specs.declared.service.Service.{Service}
 use Rattle.terms.specs.declared.service.Service.TheVariants.{RegUp, RegDown, Responsive, NonSpin, Ecrs}
 use Rattle.terms.specs.declared.refusal.Refusal.TheVariants.{DraftOpen, NumberOutOfRange, FigureOutOfRange, NotEnrolled, NoFreeSlot}
@@ -12,13 +12,13 @@ use Rattle.terms.proofs.Services.{all_services_from, all_with}
 use Rattle.table.specs.declared.table.Full.{Full}
 use Rattle.table.specs.Rows.{AllSound, found, known, put, fits}
 use Rattle.table.specs.Tables.{full}
-use Rattle.table.proofs.Laws.{found_number, sound_found}
+use Rattle.table.proofs.Laws.{found_number, sound_found, sound_put}
 use Rattle.history.specs.declared.account.Account.{Account}
-use Rattle.history.specs.Accounts.{account_sound}
+use Rattle.history.specs.Accounts.{account_sound, account_kept, settled_within, line_within}
 use Rattle.history.specs.Called.{Called}
 use Rattle.history.specs.Calls.{State, enrol, quantities, refused, done, qse_of, new_account, with_load, with_quantities, enrolled, supplied, with_qses, with_read, unless, refusal, carried_out}
 use Rattle.history.proofs.Calling.{called_refused, called_granted}
-use Rattle.history.proofs.Limits.{parts, from_parts}
+use Rattle.history.proofs.Limits.{parts, from_parts, kept_parts, from_kept_parts}
 use Rattle.history.proofs.Words.{enrolled_number}
 use Rattle.admission.proofs.Passing.{three_pass}
 
@@ -35,20 +35,38 @@ unfolding quantities_within
 zero_within = refl
 
 new_sound : (qse load : ℕ) → numbered qse ≡ true → load_within load ≡ true → account_sound (new_account qse load) ≡ true
-new_sound qse load n l = from_parts (new_account qse load) (record { number = n; load = l; quantities = all_services_from quantities_within (new_account qse load).row.quantities (λ v. elim v as (λ w. quantities_within (of w (new_account qse load).row.quantities) ≡ true) [ RegUp ↦ zero_within | RegDown ↦ zero_within | Responsive ↦ zero_within | NonSpin ↦ zero_within | Ecrs ↦ zero_within ]); settled = refl; billed = refl; line = refl })
+new_sound qse load n l = from_parts (new_account qse load) (record { number = n; load = l; quantities = all_services_from quantities_within (new_account qse load).row.quantities (λ v. elim v as (λ w. quantities_within (of w (new_account qse load).row.quantities) ≡ true) [ RegUp ↦ zero_within | RegDown ↦ zero_within | Responsive ↦ zero_within | NonSpin ↦ zero_within | Ecrs ↦ zero_within ]); settled = refl; billed = refl })
 
 -- the account of an enrolment lies within its limits
 pub enrolled_sound : (qse load : ℕ) (xs : List Account) (o : Option Account) → o ≡ found qse_of qse xs → AllSound account_sound xs → numbered qse ≡ true → load_within load ≡ true → account_sound (enrolled qse load o) ≡ true
 enrolled_sound qse load xs None f s n l = new_sound qse load n l
 enrolled_sound qse load xs (Some a) f s n l =
     let p = parts a (sound_found qse_of account_sound qse xs a s (sym f)) in
-    from_parts (with_load load a) (record { number = p.number; load = l; quantities = p.quantities; settled = p.settled; billed = p.billed; line = p.line })
+    from_parts (with_load load a) (record { number = p.number; load = l; quantities = p.quantities; settled = p.settled; billed = p.billed })
 
 -- so does an account with other quantities
 pub supplied_sound : (qse : ℕ) (v : Service) (ten : BareQuantities) (xs : List Account) (o : Option Account) (a : Account) → o ≡ found qse_of qse xs → o ≡ Some a → AllSound account_sound xs → quantities_within ten ≡ true → account_sound (with_quantities v ten a) ≡ true
 supplied_sound qse v ten xs o a f h s w =
     let p = parts a (sound_found qse_of account_sound qse xs a s (sym f ∙ h)) in
-    from_parts (with_quantities v ten a) (record { number = p.number; load = p.load; quantities = all_with quantities_within v ten a.row.quantities p.quantities w; settled = p.settled; billed = p.billed; line = p.line })
+    from_parts (with_quantities v ten a) (record { number = p.number; load = p.load; quantities = all_with quantities_within v ten a.row.quantities p.quantities w; settled = p.settled; billed = p.billed })
+
+-- the book keeps the account of an enrolment, and an account with other quantities
+pub enrolled_kept : (qse load : ℕ) (xs : List Account) (o : Option Account) → o ≡ found qse_of qse xs → AllSound account_kept xs → account_sound (enrolled qse load o) ≡ true → account_kept (enrolled qse load o) ≡ true
+enrolled_kept qse load xs None f k s = from_kept_parts (new_account qse load) (record { sound = s; settled = refl; billed = refl; line = refl })
+enrolled_kept qse load xs (Some a) f k s =
+    let p = kept_parts a (sound_found qse_of account_kept qse xs a k (sym f)) in
+    from_kept_parts (with_load load a) (record { sound = s; settled = p.settled; billed = p.billed; line = p.line })
+
+pub supplied_kept : (qse : ℕ) (v : Service) (ten : BareQuantities) (xs : List Account) (o : Option Account) (a : Account) → o ≡ found qse_of qse xs → o ≡ Some a → AllSound account_kept xs → account_sound (with_quantities v ten a) ≡ true → account_kept (with_quantities v ten a) ≡ true
+supplied_kept qse v ten xs o a f h k s =
+    let p = kept_parts a (sound_found qse_of account_kept qse xs a k (sym f ∙ h)) in
+    from_kept_parts (with_quantities v ten a) (record { sound = s; settled = p.settled; billed = p.billed; line = p.line })
+
+-- the accounts after such an account was put, or not where no slot was free
+pub put_kept : (a : Account) (b : Bool) (xs ys : List Account) → ys ≡ cond b (put qse_of a xs) xs → AllSound account_kept xs → account_kept a ≡ true → AllSound account_kept ys
+put_kept a b xs ys e k s =
+    let P : List Account → Type 0 = λ zs. AllSound account_kept zs in
+    subst P (sym e) (cond_both b (put qse_of a xs) xs P (λ _. sound_put qse_of account_kept a xs s k) (λ _. k))
 
 -- the book with other accounts over so many slots
 abbrev pub holding : ℕ → List Account → State → State

@@ -1,10 +1,11 @@
 -- A book as its state, and an answer in code as an answer of the definitions.
-use Rattle.std.specs.Prelude.{◌≡◌, List, map, Ok, Err, Result}
+use Rattle.std.specs.Prelude.{◌≡◌, ℕ, List, map, Ok, Err, Result}
 use Rattle.terms.specs.declared.refusal.Refusal.{Refusal}
 use Rattle.market.specs.Bare.{bare_prices}
 use Rattle.table.specs.Tables.{rows, capacity}
 use Rattle.history.specs.Calls.{State, Line, Answer, refused, done, stated}
 use Rattle.terms.specs.declared.service.Service.{Service}
+use Rattle.market.specs.declared.units.Cents.{Cents}
 use Rattle.history.specs.declared.account.Account.{Account}
 use Rattle.book.specs.declared.book.Book.{Book}
 use Rattle.book.specs.declared.draft.Draft.{Draft}
@@ -38,3 +39,7 @@ HandsBack draft (Err (r, d)) = d ≡ draft
 -- a service with an account
 abbrev pub both : Service → Account → Service × Account
 both v a = (v, a)
+
+-- a charge and a credit within their limits, as two numbers
+abbrev pub in_cents : Cents 6400000000000 × Cents 6400000000000 → ℕ × ℕ
+in_cents p = (p.0.value, p.1.value)

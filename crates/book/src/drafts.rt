@@ -1,7 +1,7 @@
 // The calls that open a book, and that take, issue and drop its drafts.
 ghost use Rattle.std.specs.Prelude.{◌≡◌, ◌≤◌, [], ◌∷◌, length, IfOk};
 ghost use Rattle.table.specs.Rows.{AllSound};
-ghost use Rattle.history.specs.Accounts.{account_sound};
+ghost use Rattle.history.specs.Accounts.{account_kept};
 ghost use Rattle.history.specs.Called.{Called};
 ghost use Rattle.history.specs.Calls.{opened as opened_state, draft as draft_call, issue as issue_call, drop as drop_call};
 ghost use Rattle.history.specs.Histories.{History, Lived};
@@ -103,7 +103,7 @@ impl<'a> Book<'a> {
     // The accounts in rising order of QSE number; each line is that of the last statement.
     pub fn accounts(&self) -> &[Account]
         ensures answer { result.now ≡ (view self.now).qses }
-        ensures sound { AllSound account_sound result.now }
+        ensures kept { AllSound account_kept result.now }
         ensures few { length result.now ≤ 64 }
     {
         self.accounts.as_slice()

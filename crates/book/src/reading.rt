@@ -1,15 +1,15 @@
 // The calls that only look: what is billed to a QSE in a service, and what an open draft would add to it.
 ghost use Rattle.std.specs.Prelude.{◌≡◌, true, IfOk};
 ghost use Rattle.market.specs.Answers.{plainly};
-ghost use Rattle.history.specs.Accounts.{account_sound, in_cents, in_signed_cents};
+ghost use Rattle.history.specs.Accounts.{account_sound};
 ghost use Rattle.history.specs.Calls.{asked as asked_of, read as read_of, preview as preview_of};
-ghost use Rattle.book.specs.View.{view, both};
+ghost use Rattle.book.specs.View.{view, both, in_cents};
 
 use crate::book::Book;
 use crate::draft::Draft;
 use admission::letters::asked_service;
 use history::account::Account;
-use market::units::{Cents, SignedCents};
+use market::units::Cents;
 use settlement::billing::difference;
 use terms::refusal::Refusal;
 use terms::service::Service;
@@ -32,7 +32,7 @@ impl Book<'_> {
         &self,
         qse: u32,
         letter: char,
-    ) -> Result<(Cents<100_000_000_000>, Cents<6_400_000_000_000>), Refusal>
+    ) -> Result<(Cents<6_400_000_000_000>, Cents<6_400_000_000_000>), Refusal>
         ensures answer { plainly in_cents result ≡ read_of (view self.now) qse letter }
     {
         let (service, account) = self.asked(qse, letter)?;
@@ -41,13 +41,8 @@ impl Book<'_> {
     }
 
     // What the issue of the draft that carries this number would add: charge and credit.
-    fn previewed(
-        &self,
-        carried: u32,
-        qse: u32,
-        letter: char,
-    ) -> Result<(SignedCents<100_000_000_000>, SignedCents<6_400_000_000_000>), Refusal>
-        ensures answer { plainly in_signed_cents result ≡ preview_of (view self.now) carried qse letter }
+    fn previewed(&self, carried: u32, qse: u32, letter: char) -> Result<(i64, i64), Refusal>
+        ensures answer { result ≡ preview_of (view self.now) carried qse letter }
     {
         if carried != self.number {
             return Err(Refusal::OtherBook);
@@ -56,21 +51,14 @@ impl Book<'_> {
             return Err(Refusal::NoDraft);
         }
         let (service, account) = self.asked(qse, letter)?;
-        let pair = account.settled.of(service);
-        let settled = (Cents { value: pair.0 }, Cents { value: pair.1 });
-        let before = account.billed.of(service);
-        let billed = (Cents { value: before.0 }, Cents { value: before.1 });
+        let settled = account.settled.of(service);
+        let billed = account.billed.of(service);
         Ok(difference(settled, billed))
     }
 
     // What the issue of this draft will add for a QSE in the service of a letter: charge and credit. The draft stays.
-    pub fn preview(
-        &self,
-        draft: &Draft,
-        qse: u32,
-        letter: char,
-    ) -> Result<(SignedCents<100_000_000_000>, SignedCents<6_400_000_000_000>), Refusal>
-        ensures answer { plainly in_signed_cents result ≡ preview_of (view self.now) draft.now.book qse letter }
+    pub fn preview(&self, draft: &Draft, qse: u32, letter: char) -> Result<(i64, i64), Refusal>
+        ensures answer { result ≡ preview_of (view self.now) draft.now.book qse letter }
     {
         self.previewed(draft.book, qse, letter)
     }

@@ -4,12 +4,12 @@ use Rattle.terms.specs.declared.refusal.Refusal.TheVariants.{DraftOpen, NumberOu
 use Rattle.market.specs.Limits.{numbered, load_within}
 use Rattle.table.specs.Rows.{fits}
 use Rattle.table.specs.Tables.{rows, capacity}
-use Rattle.history.specs.Accounts.{account_sound}
+use Rattle.history.specs.Accounts.{account_sound, account_kept}
 use Rattle.history.specs.Calls.{enrol, qse_of, unless}
 use Rattle.history.proofs.Calling.{called_refused}
 use Rattle.book.specs.View.{view}
 use Rattle.admission.proofs.Passing.{three_refuse}
-use Rattle.book.proofs.Accounts.{enrolled_sound, enrol_put, enrol_full}
+use Rattle.book.proofs.Accounts.{enrolled_sound, enrolled_kept, put_kept, enrol_put, enrol_full}
 use Rattle.book.proofs.book.Book.enrol.Goals as goal
 
 pub returns-in_err-tested_enrol : goal.returns-in_err-tested_enrol
@@ -22,8 +22,11 @@ pub invariant_of-self : goal.invariant_of-self
 invariant_of-self c =
     let b = c.args.self.now in
     let t = c.in_ok-tested_enrol.ensures.tested in
-    let sound = ap account_sound c.enrolled-account.ensures.answer ∙ enrolled_sound c.args.qse c.args.load (rows b.accounts) c.get.result (c.get.ensures.answer b.accounting) b.accounting.2 t.1.0 t.1.1 in
-    record { accounting = c.put.ensures.sound b.accounting sound; resourcing = b.resourcing; few_qses = omega (arith, c.put.ensures.capacity, b.few_qses); few_resources = b.few_resources }
+    let found = c.get.ensures.answer b.accounting in
+    let made = c.enrolled-account.ensures.answer in
+    let sound = enrolled_sound c.args.qse c.args.load (rows b.accounts) c.get.result found b.accounting.2 t.1.0 t.1.1 in
+    let kept = enrolled_kept c.args.qse c.args.load (rows b.accounts) c.get.result found b.keeping sound in
+    record { accounting = c.put.ensures.sound b.accounting (ap account_sound made ∙ sound); resourcing = b.resourcing; keeping = put_kept c.enrolled-account.result _ (rows b.accounts) _ (c.put.ensures.after b.accounting) b.keeping (ap account_kept made ∙ kept); few_qses = omega (arith, c.put.ensures.capacity, b.few_qses); few_resources = b.few_resources }
 
 pub returns-in-Ok : goal.returns-in-Ok
 returns-in-Ok c =

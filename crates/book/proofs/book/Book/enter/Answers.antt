@@ -28,7 +28,7 @@ pub invariant_of-self : goal.invariant_of-self
 invariant_of-self c =
     let b = c.args.self.now in
     let r = entered_sound (view b) c.args.resource c.args.qse c.args.class c.args.figures c.in_ok-class.class c.in_ok-class.ensures.tested.0 in
-    record { accounting = b.accounting; resourcing = c.put.ensures.sound b.resourcing r; few_qses = b.few_qses; few_resources = rw c.put.ensures.capacity b.few_resources }
+    record { accounting = b.accounting; resourcing = c.put.ensures.sound b.resourcing r; keeping = b.keeping; few_qses = b.few_qses; few_resources = rw c.put.ensures.capacity b.few_resources }
 
 pub returns-in-Ok : goal.returns-in-Ok
 returns-in-Ok c =

@@ -23,7 +23,7 @@ lines_kept (x ∷ xs) = ap (λ r. record { qse = x.row.number; figures = line_of
 pub invariant_of-self : goal.invariant_of-self
 invariant_of-self c =
     let b = c.args.self.now in
-    record { accounting = c.bill_table.ensures.sound b.accounting; resourcing = b.resourcing; few_qses = omega (arith, b.few_qses, c.bill_table.ensures.capacity); few_resources = b.few_resources }
+    record { accounting = c.bill_table.ensures.sound b.accounting; resourcing = b.resourcing; keeping = c.bill_table.ensures.kept b.accounting b.keeping; few_qses = omega (arith, b.few_qses, c.bill_table.ensures.capacity); few_resources = b.few_resources }
 
 pub returns-in-Err : goal.returns-in-Err
 returns-in-Err c =

@@ -9,12 +9,12 @@ use Rattle.terms.specs.Services.{service_of, with_service}
 use Rattle.table.specs.Rows.{known}
 use Rattle.table.specs.Tables.{rows, capacity}
 use Rattle.history.specs.declared.account.Account.{Account}
-use Rattle.history.specs.Accounts.{account_sound}
+use Rattle.history.specs.Accounts.{account_sound, account_kept}
 use Rattle.history.specs.Calls.{quantities, qse_of, unless, with_quantities}
 use Rattle.history.proofs.Calling.{called_refused}
 use Rattle.book.specs.View.{view}
 use Rattle.admission.proofs.Passing.{three_refuse}
-use Rattle.book.proofs.Accounts.{supplied_sound, quantities_unknown, quantities_put}
+use Rattle.book.proofs.Accounts.{supplied_sound, supplied_kept, put_kept, quantities_unknown, quantities_put}
 use Rattle.book.proofs.book.Book.quantities.Goals as goal
 
 pub returns-in_err-service : goal.returns-in_err-service
@@ -39,8 +39,11 @@ invariant_of-self c =
     let t = c.in_ok-service.ensures.tested in
     let a = c.in-Some.account in
     let v = c.in_ok-service.service in
-    let sound = ap account_sound (given v c.args.bare c.set.new.self a c.set.ensures.after) ∙ supplied_sound c.args.qse v c.args.bare (rows b.accounts) c.get.result a (c.get.ensures.answer b.accounting) c.in-Some.is b.accounting.2 t.1.1 in
-    record { accounting = c.put.ensures.sound b.accounting sound; resourcing = b.resourcing; few_qses = omega (arith, c.put.ensures.capacity, b.few_qses); few_resources = b.few_resources }
+    let found = c.get.ensures.answer b.accounting in
+    let made = given v c.args.bare c.set.new.self a c.set.ensures.after in
+    let sound = supplied_sound c.args.qse v c.args.bare (rows b.accounts) c.get.result a found c.in-Some.is b.accounting.2 t.1.1 in
+    let kept = supplied_kept c.args.qse v c.args.bare (rows b.accounts) c.get.result a found c.in-Some.is b.keeping sound in
+    record { accounting = c.put.ensures.sound b.accounting (ap account_sound made ∙ sound); resourcing = b.resourcing; keeping = put_kept _ _ (rows b.accounts) _ (c.put.ensures.after b.accounting) b.keeping (ap account_kept made ∙ kept); few_qses = omega (arith, c.put.ensures.capacity, b.few_qses); few_resources = b.few_resources }
 
 pub returns : goal.returns
 returns c =

@@ -19,7 +19,7 @@ returns-in_err-tested_strike c =
 pub invariant_of-self : goal.invariant_of-self
 invariant_of-self c =
     let b = c.args.self.now in
-    record { accounting = b.accounting; resourcing = c.remove.ensures.sound b.resourcing; few_qses = b.few_qses; few_resources = rw c.remove.ensures.capacity b.few_resources }
+    record { accounting = b.accounting; resourcing = c.remove.ensures.sound b.resourcing; keeping = b.keeping; few_qses = b.few_qses; few_resources = rw c.remove.ensures.capacity b.few_resources }
 
 pub returns-in-Ok : goal.returns-in-Ok
 returns-in-Ok c =

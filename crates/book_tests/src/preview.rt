@@ -1,7 +1,7 @@
 // A preview says what the issue then states; a dropped draft states nothing.
 use crate::drafts::{draft_under, drop_open, drop_under, issue_open};
 use crate::sample::{STATED, sample_hour};
-use crate::shown::{billed, check_lines, previewed};
+use crate::shown::{billed, check_lines};
 use book::book::Book;
 use book::draft::Draft;
 use editions::before_nprr1149::BeforeNprr1149;
@@ -21,35 +21,32 @@ const REFUSED: [Previewed; 4] = [
 ];
 
 fn both_qses(book: &Book, draft: &Draft) -> [Previewed; 2] {
-    [
-        previewed(book, draft, 10, 'D'),
-        previewed(book, draft, 20, 'D'),
-    ]
+    [book.preview(draft, 10, 'D'), book.preview(draft, 20, 'D')]
 }
 
 fn asked_wrongly(book: &Book, draft: &Draft) -> [Previewed; 4] {
     [
-        previewed(book, draft, 0, 'D'),
-        previewed(book, draft, 10, 'X'),
-        previewed(book, draft, 30, 'D'),
+        book.preview(draft, 0, 'D'),
+        book.preview(draft, 10, 'X'),
+        book.preview(draft, 30, 'D'),
         // the number is looked at first
-        previewed(book, draft, 1_000_000, 'X'),
+        book.preview(draft, 1_000_000, 'X'),
     ]
 }
 
 fn issued(book: &mut Book) -> Result<[Previewed; 2], Refusal> {
     let draft = draft_under(book, &BeforeNprr1149)?;
-    let both = both_qses(book, &draft);
+    let previewed = both_qses(book, &draft);
     issue_open(book, draft);
-    Ok(both)
+    Ok(previewed)
 }
 
 fn dropped(book: &mut Book) -> Result<([Previewed; 2], [Previewed; 4]), Refusal> {
     let draft = draft_under(book, &BeforeNprr1149)?;
-    let both = both_qses(book, &draft);
+    let previewed = both_qses(book, &draft);
     let refused = asked_wrongly(book, &draft);
     drop_open(book, draft);
-    Ok((both, refused))
+    Ok((previewed, refused))
 }
 
 #[test]
@@ -58,8 +55,8 @@ fn preview(rt: HostRuntime) -> Result<(), Fail> {
     let mut resources = [ResourceRow::empty(); 256];
     let mut book = Book::opened(7, &mut qses, &mut resources);
     sample_hour(&mut book)?;
-    let both = issued(&mut book)?;
-    assert_eq!(rt; both, [Ok(STATED[0]), Ok(STATED[1])]);
+    let previewed = issued(&mut book)?;
+    assert_eq!(rt; previewed, [Ok(STATED[0]), Ok(STATED[1])]);
     check_lines(&rt, &book, STATED)?;
     let (settled, refused) = dropped(&mut book)?;
     assert_eq!(rt; settled, [Ok((0, 0)), Ok((0, 0))]);
@@ -77,7 +74,7 @@ fn dropped_draft(rt: HostRuntime) -> Result<(), Fail> {
     check_lines(&rt, &book, [(0, 0), (0, 0)])?;
     assert_eq!(rt; billed(&book, 10, 'D')?, (0, 0));
     // what was dropped is settled anew
-    let both = issued(&mut book)?;
-    assert_eq!(rt; both, [Ok(STATED[0]), Ok(STATED[1])]);
+    let previewed = issued(&mut book)?;
+    assert_eq!(rt; previewed, [Ok(STATED[0]), Ok(STATED[1])]);
     Ok(())
 }

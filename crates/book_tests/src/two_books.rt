@@ -1,7 +1,7 @@
 // Drafts in two books: a draft carries its book's number alone.
 use crate::drafts::{draft_under, issue_open};
 use crate::sample::{STATED, sample_hour};
-use crate::shown::{check_lines, fingerprint, previewed};
+use crate::shown::{check_lines, fingerprint};
 use book::book::Book;
 use editions::before_nprr1149::BeforeNprr1149;
 use history::account::Account;
@@ -40,9 +40,9 @@ fn previewed_elsewhere(
     other: &Book,
 ) -> Result<Result<(i64, i64), Refusal>, Refusal> {
     let draft = draft_under(own, &BeforeNprr1149)?;
-    let answer = previewed(other, &draft, 10, 'D');
+    let previewed = other.preview(&draft, 10, 'D');
     issue_open(own, draft);
-    Ok(answer)
+    Ok(previewed)
 }
 
 // The other book refuses the draft and stays as it was; its own book issues it.

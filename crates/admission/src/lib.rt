@@ -1,5 +1,7 @@
 // Whether a call of the book is admitted: the tests that need no look at its tables, in their order.
 // Each answers the refusal that the definitions give for the first test that fails, or what was made on the way.
+#![tactic(auto)]
+
 pub mod drafts;
 pub mod letters;
 pub mod qses;

@@ -6,6 +6,8 @@
 //
 //     let mut shares = [0; 2];
 //     apportion(100, &loads, &mut shares)?;
+#![tactic(auto)]
+
 pub mod shares;
 pub mod unfit;
 pub mod weighted;

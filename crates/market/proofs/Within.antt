@@ -1,9 +1,8 @@
-use Rattle.std.proofs.Common.{◌≡◌, ℕ, ◌≤◌, true, arith}
+use Rattle.std.proofs.Common.{◌≡◌, ◌≤◌, true, arith}
 use Rattle.std.proofs.lemmas.Bool.Decides.{nat_tests}
 use Rattle.terms.specs.declared.service.Service.{Service}
 use Rattle.market.specs.declared.quantities.BareQuantities.{BareQuantities}
 use Rattle.market.specs.declared.figures.BareFigures.{BareFigures}
-use Rattle.market.specs.declared.prices.BareServicePrices.{BareServicePrices}
 use Rattle.market.specs.declared.prices.BarePrices.{BarePrices}
 use Rattle.terms.specs.Services.{of, all_services}
 use Rattle.terms.proofs.Services.{all_services_of}

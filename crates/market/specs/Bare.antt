@@ -1,4 +1,3 @@
-use Rattle.std.specs.Prelude.{ℕ}
 use Rattle.market.specs.declared.quantities.Quantities.{Quantities}
 use Rattle.market.specs.declared.quantities.BareQuantities.{BareQuantities}
 use Rattle.market.specs.declared.figures.Figures.{Figures}

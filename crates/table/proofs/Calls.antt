@@ -1,11 +1,11 @@
 -- What each call of a table answers and leaves, over the lists of its slots and rows.
-use Rattle.std.proofs.Common.{◌≡◌, ℕ, ◌+◌, ◌-◌, ◌<◌, ◌≤◌, Bool, true, false, List, length, get_or, take, set, Some, None, Ok, Err, Option, Result, sym, refl, ap, ◌∙◌, arith, length-take}
+use Rattle.std.proofs.Common.{◌≡◌, ℕ, ◌+◌, ◌-◌, ◌<◌, ◌≤◌, Bool, true, false, List, length, get_or, take, set, Some, None, Ok, Err, Option, Result, sym, refl, ◌∙◌, arith, length-take}
 use Rattle.std.proofs.lemmas.List.{get_or-take}
 use Rattle.std.proofs.lemmas.Option.{slice_get_read}
 use Rattle.std.proofs.lemmas.Bool.Decides.{nat_tests}
 use Rattle.std.specs.List as holes
 use Rattle.std.specs.List.{slice_get}
-use Rattle.table.specs.Rows.{Rising, AllSound, known, located, put, removed, fits, holds}
+use Rattle.table.specs.Rows.{Rising, AllSound, located, put, removed, fits, holds}
 use Rattle.table.proofs.Halving.{located_at, number_read}
 use Rattle.table.proofs.Laws.{rising_put, rising_removed, sound_put, sound_removed}
 use Rattle.table.proofs.Places.{known_from_ok, new_from_err, put_at, put_between, removed_at}

@@ -1,6 +1,6 @@
 -- The laws of rows in rising order, over any kind of row, for callers to cite.
 -- `num` is the number of a row, and `sound` whether its figures lie within their limits.
-use Rattle.std.proofs.Common.{◌≡◌, ℕ, suc, ◌+◌, ◌<◌, Bool, true, false, List, [], ◌∷◌, map, length, get_or, is_some, Some, None, refl, ap, arith}
+use Rattle.std.proofs.Common.{◌≡◌, ℕ, suc, ◌+◌, ◌<◌, Bool, true, false, List, [], ◌∷◌, map, length, get_or, Some, None, refl, ap, arith}
 use Rattle.std.proofs.lemmas.Bool.Decides.{nat_tests}
 use Rattle.table.specs.Rows.{Rising, AllSound, found, known, put, removed}
 use Rattle.table.proofs.Ascending.{Ascending, ascending_from_rising, rising_from_ascending, ascending_put, ascending_removed, far, found_below, found_before, all_put, all_removed, all_from_places, places_from_all}

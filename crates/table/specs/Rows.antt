@@ -1,6 +1,6 @@
 -- Lists of rows in rising order of number: what the contracts of the table say, over any kind of row.
 -- `num` is the number of a row.
-use Rattle.std.specs.Prelude.{◌≡◌, ℕ, zero, suc, ◌<◌, Bool, true, false, cond, ◌||◌, List, [], ◌∷◌, map, length, is_some, Some, None, Ok, Err, Option, Result, ◌==◌, nat_lt, slice_index, slice_index_or}
+use Rattle.std.specs.Prelude.{◌≡◌, ℕ, suc, ◌<◌, Bool, true, false, cond, ◌||◌, List, [], ◌∷◌, map, length, is_some, Some, None, Ok, Err, Option, Result, ◌==◌, nat_lt, slice_index, slice_index_or}
 
 -- the numbers rise: each row's is below that of the next
 abbrev pub Rising : {R : Type 0} → (R → ℕ) → List R → Type 0

@@ -5,6 +5,8 @@
 //     let mut table = Table::new(&mut slots, 100);
 //     table.put(row)?;
 //     let row = table.get(7);
+#![tactic(auto)]
+
 pub mod numbered;
 pub mod slots;
 pub mod table;

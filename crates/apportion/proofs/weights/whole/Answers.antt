@@ -1,4 +1,4 @@
-use Rattle.std.proofs.Common.{◌≡◌, ◌+◌, ◌^◌, ◌≤◌, map, length, sum, arith}
+use Rattle.std.proofs.Common.{◌+◌, ◌^◌, ◌≤◌, map, sum, arith}
 use Rattle.std.proofs.lemmas.List.{length-map}
 use Rattle.std.proofs.lemmas.Bool.Decides.{nat_tests}
 use Rattle.apportion.proofs.Laws.{first_row, first_within, first_all}

@@ -1,5 +1,5 @@
 -- The gap that the copy leaves takes the row.
-use Rattle.std.proofs.Common.{◌≡◌, ◌+◌, take, set, ap, ◌∙◌}
+use Rattle.std.proofs.Common.{◌+◌, take, set, ap, ◌∙◌}
 use Rattle.table.proofs.Shift.{shifted_up}
 use Rattle.table.proofs.slots.insert.Goals as goal
 

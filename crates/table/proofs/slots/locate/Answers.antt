@@ -1,5 +1,5 @@
 -- Each turn leaves a narrower part, and the row that is left says where the number stands.
-use Rattle.std.proofs.Common.{◌≡◌, ◌+◌, ◌-◌, ◌/◌, ◌<◌, ◌≤◌, map, length, get_or, sym, ◌∙◌, arith}
+use Rattle.std.proofs.Common.{◌≡◌, ◌+◌, ◌-◌, ◌/◌, ◌<◌, map, get_or, sym, arith}
 use Rattle.table.proofs.Halving.{narrowed_up, narrowed_down, number_read, located_at, located_between}
 use Rattle.table.proofs.slots.locate.Goals as goal
 use Rattle.table.proofs.slots.locate.Goals.{then-key-number, else-key-number}

@@ -1,5 +1,5 @@
 -- The place of a number is its rank.
-use Rattle.std.proofs.Common.{◌≡◌, Ok, Err, refl}
+use Rattle.std.proofs.Common.{Ok, Err, refl}
 use Rattle.table.specs.Tables.{rows}
 use Rattle.table.proofs.Calls.{placed}
 use Rattle.table.proofs.Places.{known_from_ok, new_from_err}

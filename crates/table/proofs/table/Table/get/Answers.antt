@@ -1,5 +1,5 @@
 -- The row of a number stands at its place.
-use Rattle.std.proofs.Common.{◌≡◌, Ok, Err, sym, refl, ◌∙◌}
+use Rattle.std.proofs.Common.{Ok, Err, sym, refl}
 use Rattle.std.proofs.lemmas.Option.{slice_get_read}
 use Rattle.table.specs.Tables.{rows}
 use Rattle.table.proofs.Calls.{placed}

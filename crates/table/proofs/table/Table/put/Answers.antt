@@ -1,5 +1,5 @@
 -- A known number is overwritten, a new one entered where it belongs, or refused where no slot is free.
-use Rattle.std.proofs.Common.{◌≡◌, ◌+◌, ◌<◌, ◌≤◌, true, false, length, take, set, Ok, Err, sym, refl, ◌∙◌, arith, length-set}
+use Rattle.std.proofs.Common.{◌≡◌, ◌+◌, ◌<◌, true, false, length, take, set, Ok, Err, sym, refl, ◌∙◌, arith, length-set}
 use Rattle.std.proofs.lemmas.Bool.{cond-true, cond-false}
 use Rattle.table.specs.Rows.{Rising, located, fits, put}
 use Rattle.table.specs.Tables.{rows, capacity}

@@ -1,5 +1,5 @@
 -- The row at the place of the number is struck.
-use Rattle.std.proofs.Common.{◌≡◌, ◌-◌, ◌≤◌, length, take, Ok, Err, sym, refl, ◌∙◌, arith}
+use Rattle.std.proofs.Common.{◌≡◌, ◌-◌, length, take, Ok, Err, sym, refl, arith}
 use Rattle.std.proofs.lemmas.Bool.{cond-true, cond-false}
 use Rattle.table.specs.Rows.{Rising, located, removed}
 use Rattle.table.specs.Tables.{rows, capacity}

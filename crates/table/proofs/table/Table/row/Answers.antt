@@ -1,5 +1,5 @@
 -- A place below the length holds a row, and any other none.
-use Rattle.std.proofs.Common.{sym, refl, arith}
+use Rattle.std.proofs.Common.{sym, refl}
 use Rattle.std.proofs.lemmas.Option.{slice_get_read, slice_get_past}
 use Rattle.table.proofs.table.Table.row.Goals as goal
 

@@ -14,7 +14,7 @@ use Rattle.table.specs.Rows.{AllSound, found, known, put, fits}
 use Rattle.table.specs.Tables.{full}
 use Rattle.table.proofs.Laws.{found_number, sound_found, sound_put}
 use Rattle.history.specs.declared.account.Account.{Account}
-use Rattle.history.specs.Accounts.{account_sound, account_kept, settled_within, line_within}
+use Rattle.history.specs.Accounts.{account_sound, account_kept}
 use Rattle.history.specs.Called.{Called}
 use Rattle.history.specs.Calls.{State, enrol, quantities, refused, done, qse_of, new_account, with_load, with_quantities, enrolled, supplied, with_qses, with_read, unless, refusal, carried_out}
 use Rattle.history.proofs.Calling.{called_refused, called_granted}

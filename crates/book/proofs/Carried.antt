@@ -1,5 +1,5 @@
 -- What a call carries out once its figures were read.
-use Rattle.std.proofs.Common.{◌≡◌, ℕ, Ok, Result, sym, ap}
+use Rattle.std.proofs.Common.{◌≡◌, ℕ, Ok, sym, ap}
 use Rattle.terms.specs.declared.service.Service.{Service}
 use Rattle.terms.specs.declared.interval.Interval.{Interval}
 use Rattle.market.specs.declared.prices.BareServicePrices.{BareServicePrices}

@@ -9,6 +9,8 @@
 //         Ok(()) => book.read(10, 'D'),
 //         Err((refusal, draft)) => ..
 //     }
+#![tactic(auto)]
+
 pub mod book;
 pub mod draft;
 pub mod drafts;

@@ -1,5 +1,4 @@
-use Rattle.std.proofs.Common.{◌≡◌, true, false, not, None, Option, sym, refl, ap, ◌∙◌, arith}
-use Rattle.terms.specs.declared.refusal.Refusal.{Refusal}
+use Rattle.std.proofs.Common.{true, not, None, refl, ap, arith}
 use Rattle.terms.specs.declared.refusal.Refusal.TheVariants.{DraftOpen}
 use Rattle.history.specs.Calls.{draft, unless}
 use Rattle.history.proofs.Calling.{called_refused, called_granted}

@@ -1,4 +1,4 @@
-use Rattle.std.proofs.Common.{◌≡◌, refl}
+use Rattle.std.proofs.Common.{refl}
 use Rattle.history.specs.Calls.{drop}
 use Rattle.history.proofs.Calling.{called_refused, called_granted}
 use Rattle.book.specs.View.{view}

@@ -1,14 +1,14 @@
-use Rattle.std.proofs.Common.{◌≡◌, true, false, List, [], ◌∷◌, map, sym, refl, ap, ◌∙◌, arith}
+use Rattle.std.proofs.Common.{◌≡◌, true, false, List, [], ◌∷◌, map, refl, ap, ◌∙◌, arith}
 use Rattle.table.specs.Tables.{rows}
 use Rattle.history.specs.declared.account.Account.{Account}
 use Rattle.history.specs.Settlement.{line_of, billed_account}
 use Rattle.history.specs.Called.{Called}
-use Rattle.history.specs.Calls.{State, Line, Call, Answer, stated, issue, statement, billed_book}
+use Rattle.history.specs.Calls.{State, Line, Call, Answer, stated, issue}
 use Rattle.history.specs.Histories.{History, Lived}
 use Rattle.history.specs.Law.{LawAt}
 use Rattle.history.proofs.Calling.{called_refused, called_granted}
 use Rattle.history.proofs.Distinction.{law_at}
-use Rattle.book.specs.View.{view, last_lines}
+use Rattle.book.specs.View.{view}
 use Rattle.book.proofs.book.Book.issue.Goals as goal
 
 -- a call goes on with the law

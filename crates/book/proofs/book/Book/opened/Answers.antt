@@ -1,7 +1,6 @@
-use Rattle.std.proofs.Common.{◌≡◌, ℕ, min, [], length, sym, subst, rules}
+use Rattle.std.proofs.Common.{◌≡◌, ℕ, [], length, sym, subst, rules}
 use Rattle.history.specs.Calls.{State, opened}
 use Rattle.history.specs.Histories.{Lived, opening}
-use Rattle.book.specs.View.{view}
 use Rattle.book.proofs.book.Book.opened.Goals as goal
 
 -- a book that is as at an opening has lived no call

@@ -4,6 +4,8 @@
 //
 //     let count = words_of(&bytes, &mut words);
 //     let groups = feed(&mut book, &words[..count])?;
+#![tactic(auto)]
+
 pub mod feed;
 mod groups;
 pub mod words;

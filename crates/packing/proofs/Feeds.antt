@@ -1,11 +1,11 @@
 -- The feed reads the words of groups as their calls in turn.
-use Rattle.std.proofs.Common.{◌≡◌, ℕ, suc, ◌+◌, ◌-◌, Bool, true, false, cond, eqb, List, [], ◌∷◌, ◌++◌, map, length, Some, None, Ok, Err, Option, sym, refl, ap, ◌∙◌, arith, ne_eqb}
+use Rattle.std.proofs.Common.{◌≡◌, ℕ, suc, ◌+◌, List, [], ◌∷◌, ◌++◌, map, length, Some, None, Ok, Option, sym, refl, ap, ◌∙◌, arith, ne_eqb}
 use Rattle.terms.specs.declared.refusal.Refusal.{Refusal}
 use Rattle.history.specs.Calls.{State, Call, refusal, answer, after}
 use Rattle.history.specs.Histories.{History}
 use Rattle.feed.specs.Words.{kind_of}
-use Rattle.feed.specs.Groups.{needed, group_at}
-use Rattle.feed.specs.Feeding.{Feeding, onward, grouped, fed, feeding}
+use Rattle.feed.specs.Groups.{needed}
+use Rattle.feed.specs.Feeding.{Feeding, onward, grouped, fed}
 use Rattle.packing.specs.declared.group.Group.{Group}
 use Rattle.packing.specs.Packing.{call_of_group, ReadAs}
 use Rattle.packing.specs.Whole.{words_of_group, words_of_groups, in_turn, Granted, after_all, ReadInTurn, TakenWhole}

@@ -1,14 +1,12 @@
 -- The feed reads the words of a group as the group's call.
-use Rattle.std.proofs.Common.{◌≡◌, ℕ, ◌<◌, Bool, true, false, cond, eqb, leb, List, [], ◌∷◌, ◌++◌, length, take, drop, Some, None, Ok, Err, Option, Result, sym, refl, ap, ◌∙◌, subst, arith, length-append, le-leb}
+use Rattle.std.proofs.Common.{◌≡◌, ℕ, ◌<◌, true, leb, List, [], ◌∷◌, ◌++◌, length, take, drop, None, Ok, sym, refl, ap, ◌∙◌, arith, length-append, le-leb}
 use lib.Seq.{take-append_seam}
-use Rattle.std.specs.Option.{option_map}
-use Rattle.terms.specs.declared.fault.Fault.{Fault}
 use Rattle.terms.specs.declared.service.Service.{Service}
 use Rattle.terms.specs.declared.service.Service.TheVariants.{RegUp, RegDown, Responsive, NonSpin, Ecrs}
 use Rattle.terms.specs.Services.{service_number}
 use Rattle.history.specs.Calls.{Call}
 use Rattle.feed.specs.Words.{kind_of, value_of}
-use Rattle.feed.specs.Groups.{is_head, needed, call_of, first_other, of_data, group_at}
+use Rattle.feed.specs.Groups.{is_head, needed, call_of, first_other, group_at}
 use Rattle.packing.specs.declared.group.Group.{Group}
 use Rattle.packing.specs.declared.group.Group.TheVariants.{Enrol, Quantities, Resource, Strike, Prices, Interval}
 use Rattle.packing.specs.Packing.{head_word, call_of_group, words_of_call, ReadAs}

@@ -4,6 +4,8 @@
 //     let mut out = [0; 12_300];
 //     let end = text(&book, &mut out)?;
 //     stdout.write_all(&out[0..end])
+#![tactic(auto)]
+
 mod decimal;
 pub mod fault_line;
 pub mod length;

@@ -1,4 +1,6 @@
 // Figures that were worked by hand, held against the definitions by one proof.
+#![tactic(auto)]
+
 ghost use Rattle.std.specs.Prelude.{◌≡◌, length};
 ghost use Rattle.worked.specs.Figures.{table, TableStands};
 

@@ -1,4 +1,4 @@
-use Rattle.std.proofs.Common.{refl, arith}
+use Rattle.std.proofs.Common.{refl}
 use Rattle.packing.proofs.Numerals.{on_digit, at_other, at_end, no_numeral, numeral}
 use Rattle.packing.proofs.field.is_numeral.Goals as goal
 

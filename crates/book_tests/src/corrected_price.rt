@@ -7,7 +7,6 @@ use editions::before_nprr1149::BeforeNprr1149;
 use history::account::Account;
 use market::prices::BareServicePrices;
 use market::resource::ResourceRow;
-use std::process::Abort;
 use std::test::Fail;
 use terms::refusal::Refusal;
 
@@ -36,19 +35,10 @@ const CORRECTED: [Corrected; 3] = [
     },
 ];
 
-fn restated(rt: &impl Abort, book: &mut Book, corrected: &Corrected) -> Result<(), Fail> {
-    book.prices(
-        REG_DOWN,
-        BareServicePrices {
-            sasm: corrected.sasm,
-            ..CAPACITY
-        },
-    )?;
-    issue_under(book, &BeforeNprr1149)?;
-    check_lines(rt, book, corrected.lines)?;
-    assert_eq!(rt; billed(book, 10, 'D')?, corrected.billed[0]);
-    assert_eq!(rt; billed(book, 20, 'D')?, corrected.billed[1]);
-    Ok(())
+// Issues the next statement with this price in Reg-Down.
+fn restate(book: &mut Book, sasm: u32) -> Result<(), Refusal> {
+    book.prices(REG_DOWN, BareServicePrices { sasm, ..CAPACITY })?;
+    issue_under(book, &BeforeNprr1149)
 }
 
 #[test]
@@ -60,7 +50,10 @@ fn corrected_price(rt: HostRuntime) -> Result<(), Fail> {
     issue_under(&mut book, &BeforeNprr1149)?;
     check_lines(&rt, &book, STATED)?;
     for corrected in CORRECTED {
-        restated(&rt, &mut book, &corrected)?;
+        restate(&mut book, corrected.sasm)?;
+        check_lines(&rt, &book, corrected.lines)?;
+        assert_eq!(rt; billed(&book, 10, 'D')?, corrected.billed[0]);
+        assert_eq!(rt; billed(&book, 20, 'D')?, corrected.billed[1]);
     }
     Ok(())
 }

@@ -1,4 +1,5 @@
 // A book with every slot taken.
+use crate::checks::{agree, holds};
 use crate::drafts::issue_under;
 use crate::sample::{CAPACITY, FAILED, REAL_TIME, TELEMETERED};
 use crate::shown::{billed, totals};
@@ -8,7 +9,6 @@ use editions::nprr1196::Nprr1196;
 use history::account::Account;
 use market::quantities::BareQuantities;
 use market::resource::ResourceRow;
-use std::process::Abort;
 use std::test::Fail;
 use terms::refusal::Refusal;
 
@@ -46,22 +46,21 @@ fn set_prices(book: &mut Book) -> Result<(), Refusal> {
 }
 
 // A new row finds no slot; a known one is replaced, and a struck one makes room.
-fn no_more_rows(rt: &impl Abort, book: &mut Book) -> Result<(), Fail> {
-    assert_eq!(rt; book.enrol(65, 1), FULL);
-    assert_eq!(rt; book.enter(257, 1, 0, TELEMETERED), FULL);
+fn no_more_rows(book: &mut Book) -> Result<(), Fail> {
+    agree(book.enrol(65, 1), FULL, "QSE 65")?;
+    agree(book.enter(257, 1, 0, TELEMETERED), FULL, "resource 257")?;
     book.enrol(64, 9)?;
     book.enter(256, 1, 2, TELEMETERED)?;
     book.strike(100)?;
     book.enter(257, 1, 0, TELEMETERED)?;
-    assert_eq!(rt; book.enter(100, 1, 0, TELEMETERED), FULL);
-    Ok(())
+    agree(book.enter(100, 1, 0, TELEMETERED), FULL, "resource 100")
 }
 
 // Every charge is credited to somebody.
-fn check_balance(rt: &impl Abort, book: &Book) {
+fn check_balance(book: &Book) -> Result<(), Fail> {
     let (charges, credits) = totals(book);
-    assert!(rt; charges > 0);
-    assert_eq!(rt; charges, credits);
+    holds(charges > 0, format_args!("charges of {charges}"))?;
+    agree(charges, credits, "charges against credits")
 }
 
 #[test]
@@ -73,13 +72,12 @@ fn full_book(rt: HostRuntime) -> Result<(), Fail> {
     enrol_64(&mut book)?;
     enter_256(&mut book)?;
     set_prices(&mut book)?;
-    no_more_rows(&rt, &mut book)?;
+    no_more_rows(&mut book)?;
     assert_eq!(rt; book.accounts().len(), 64);
     issue_under(&mut book, &BeforeNprr1149)?;
-    check_balance(&rt, &book);
+    check_balance(&book)?;
     issue_under(&mut book, &Nprr1196)?;
-    check_balance(&rt, &book);
-    Ok(())
+    check_balance(&book)
 }
 
 #[test]

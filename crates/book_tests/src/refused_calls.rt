@@ -1,6 +1,7 @@
 // Refused calls in the middle of a history: each is told by its refusal, and leaves the book as it was.
 ghost use Rattle.book_tests.specs.Open.{Rests};
 
+use crate::checks::agree;
 use crate::drafts::{draft_under, issue_open, issue_under, second_draft};
 use crate::sample::{STATED, sample_hour};
 use crate::settings::{LAWFUL, REFUSED, set};
@@ -10,7 +11,6 @@ use editions::before_nprr1149::BeforeNprr1149;
 use editions::nprr1149::Nprr1149;
 use history::account::Account;
 use market::resource::ResourceRow;
-use std::process::Abort;
 use std::test::Fail;
 use terms::refusal::Refusal;
 
@@ -23,18 +23,28 @@ const UNREAD: [(u32, char, Refusal); 5] = [
     (30, 'D', Refusal::NotEnrolled),
 ];
 
-fn check_unread(rt: &impl Abort, book: &Book) {
+fn check_unread(book: &Book) -> Result<(), Fail> {
     for (qse, letter, refusal) in UNREAD {
-        assert_eq!(rt; billed(book, qse, letter), Err(refusal));
+        agree(
+            billed(book, qse, letter),
+            Err(refusal),
+            format_args!("QSE {qse}, letter {letter}"),
+        )?;
     }
+    Ok(())
 }
 
-fn check_refused(rt: &impl Abort, book: &mut Book) {
+fn check_refused(book: &mut Book) -> Result<(), Fail> {
     let before = fingerprint(book);
     for (setting, refusal) in REFUSED {
-        assert_eq!(rt; set(book, setting), Err(refusal));
-        assert_eq!(rt; fingerprint(book), before);
+        agree(set(book, setting), Err(refusal), "a call")?;
+        agree(
+            fingerprint(book),
+            before,
+            format_args!("the accounts after {refusal:?}"),
+        )?;
     }
+    Ok(())
 }
 
 #[test]
@@ -45,8 +55,8 @@ fn refused_calls(rt: HostRuntime) -> Result<(), Fail> {
     let mut book = Book::opened(7, &mut qses, &mut resources);
     sample_hour(&mut book)?;
     issue_under(&mut book, &BeforeNprr1149)?;
-    check_refused(&rt, &mut book);
-    check_unread(&rt, &book);
+    check_refused(&mut book)?;
+    check_unread(&book)?;
     check_lines(&rt, &book, STATED)?;
     assert_eq!(rt; billed(&book, 10, 'D')?, (7_700, 2_566));
     // this edition looks at rows and prices alike: they are as before

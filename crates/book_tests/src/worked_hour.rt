@@ -8,27 +8,22 @@ use editions::nprr1149::Nprr1149;
 use editions::nprr1196::Nprr1196;
 use history::account::Account;
 use market::resource::ResourceRow;
-use std::process::Abort;
 use std::test::Fail;
 use terms::refusal::Refusal;
 
 // Each restatement has the difference to what was stated before.
-fn three_statements(rt: &impl Abort, book: &mut Book) -> Result<(), Fail> {
-    issue_under(book, &BeforeNprr1149)?;
-    check_lines(rt, book, STATED)?;
-    issue_under(book, &Nprr1149)?;
-    check_lines(rt, book, [(1_800, 600), (0, 1_200)])?;
-    issue_under(book, &Nprr1196)?;
-    check_lines(rt, book, [(0, 0), (0, 0)])
-}
-
 #[test]
 fn worked_hour(rt: HostRuntime) -> Result<(), Fail> {
     let mut qses = [Account::new(0, 0); 64];
     let mut resources = [ResourceRow::empty(); 256];
     let mut book = Book::opened(7, &mut qses, &mut resources);
     sample_hour(&mut book)?;
-    three_statements(&rt, &mut book)?;
+    issue_under(&mut book, &BeforeNprr1149)?;
+    check_lines(&rt, &book, STATED)?;
+    issue_under(&mut book, &Nprr1149)?;
+    check_lines(&rt, &book, [(1_800, 600), (0, 1_200)])?;
+    issue_under(&mut book, &Nprr1196)?;
+    check_lines(&rt, &book, [(0, 0), (0, 0)])?;
     assert_eq!(rt; billed(&book, 10, 'D')?, (9_500, 3_166));
     assert_eq!(rt; billed(&book, 20, 'D')?, (0, 6_334));
     assert_eq!(rt; billed(&book, 10, 'U')?, (0, 0));

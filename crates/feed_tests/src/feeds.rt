@@ -174,7 +174,7 @@ fn feeds(rt: HostRuntime) -> Result<(), Fail> {
         let mut resources = [ResourceRow::empty(); 256];
         let mut book = Book::opened(7, &mut qses, &mut resources);
         let mut out = [0u8; 1_000];
-        let end = printed(&rt, &mut book, words, &mut out)?;
+        let end = printed(&mut book, words, &mut out)?;
         assert!(rt; end <= 1_000);
         assert_eq!(rt; &out[0..end], expected);
     }

@@ -120,7 +120,7 @@ fn full_feed(rt: HostRuntime) -> Result<(), Fail> {
     let mut resources = [ResourceRow::empty(); 256];
     let mut book = Book::opened(7, &mut qses, &mut resources);
     let mut out = [0u8; 36_900];
-    let end = printed(&rt, &mut book, &greatest.words, &mut out)?;
+    let end = printed(&mut book, &greatest.words, &mut out)?;
     assert!(rt; end <= 36_900);
     assert_eq!(rt; end, LENGTH);
     assert_eq!(rt; fingerprint(&out[0..end]), FINGERPRINT);

@@ -1,4 +1,8 @@
+#![tactic(auto)]
+
 // Tests from the first word to the last byte: feeds, statements' texts and faults' lines.
+#[cfg(test)]
+mod checks;
 #[cfg(test)]
 mod feeds;
 #[cfg(test)]

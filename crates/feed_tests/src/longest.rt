@@ -1,6 +1,7 @@
 // The longest lines: 64 QSEs of six digits, each charged the most in every service, and all of it taken back.
 ghost use Rattle.feed_tests.specs.Greatest.{greatest};
 
+use crate::checks::{agree, holds};
 use crate::printed::{fingerprint, issue_under};
 use book::book::Book;
 use editions::before_nprr1149::BeforeNprr1149;
@@ -13,7 +14,6 @@ use market::resource::ResourceRow;
 use market::units::{Cents, SignedTenths};
 use statement::length::length;
 use statement::statement::text;
-use std::process::Abort;
 use std::test::Fail;
 use terms::class::Class;
 use terms::refusal::Refusal;
@@ -49,48 +49,51 @@ fn enrol_all(book: &mut Book) -> Result<(), Refusal> {
 }
 
 // The last statement into so many bytes of an output, of which the others are 7.
-fn into_room(rt: &impl Abort, book: &Book, room: usize, out: &mut [u8]) -> Result<usize, Refusal> {
-    assert!(rt; room <= out.len());
-    text(book, &mut out[0..room])
+fn into_room(book: &Book, room: usize, out: &mut [u8]) -> Result<Result<usize, Refusal>, Fail> {
+    Ok(text(book, out.get_mut(..room).ok_or("not so much room")?))
 }
 
-fn fingerprint_of_first(rt: &impl Abort, out: &[u8], count: usize) -> u64 {
-    assert!(rt; count <= out.len());
-    fingerprint(&out[0..count])
+fn fingerprint_of_first(out: &[u8], count: usize) -> Result<u64, Fail> {
+    Ok(fingerprint(out.get(..count).ok_or("not so many bytes")?))
 }
 
 // The last statement has this length and fingerprint; a byte less of room is refused, and leaves all as it was.
-fn check_text(
-    rt: &impl Abort,
-    book: &Book,
-    bytes: usize,
-    print: u64,
-    out: &mut [u8],
-) -> Result<(), Fail> {
+fn check_text(book: &Book, bytes: usize, print: u64, out: &mut [u8]) -> Result<(), Fail> {
     let most = length(book)?;
-    assert!(rt; bytes <= most);
-    assert!(rt; most <= 12_300);
-    assert_eq!(rt;
-        into_room(rt, book, bytes.saturating_sub(1), out),
-        Err(Refusal::OutputTooShort)
-    );
-    assert_eq!(rt; fingerprint(out), UNTOUCHED);
-    assert_eq!(rt; into_room(rt, book, bytes, out), Ok(bytes));
-    assert_eq!(rt; fingerprint_of_first(rt, out, bytes), print);
-    Ok(())
+    holds(
+        bytes <= most,
+        format_args!("{bytes} bytes, but at most {most} foretold"),
+    )?;
+    holds(most <= 12_300, format_args!("{most} bytes foretold"))?;
+    agree(
+        into_room(book, bytes.saturating_sub(1), out)?,
+        Err(Refusal::OutputTooShort),
+        format_args!("a byte less of room than {bytes}"),
+    )?;
+    agree(
+        fingerprint(out),
+        UNTOUCHED,
+        format_args!("the output with too little room for {bytes} bytes"),
+    )?;
+    agree(into_room(book, bytes, out)?, Ok(bytes), "just as much room")?;
+    agree(
+        fingerprint_of_first(out, bytes)?,
+        print,
+        format_args!("the {bytes} bytes of the text"),
+    )
 }
 
 // The fingerprint of 12,300 bytes 7.
 const UNTOUCHED: u64 = 1337472417662314313;
 
 #[test]
-fn longest(rt: HostRuntime) -> Result<(), Fail> {
+fn longest() -> Result<(), Fail> {
     let mut qses = [Account::new(0, 0); 64];
     let mut resources = [ResourceRow::empty(); 256];
     let mut book = Book::opened(4_294_967_295, &mut qses, &mut resources);
     enrol_all(&mut book)?;
     issue_under(&mut book, &Greatest)?;
-    check_text(&rt, &book, 11252, 11975713403484959175, &mut [7; 12_300])?;
+    check_text(&book, 11252, 11975713403484959175, &mut [7; 12_300])?;
     issue_under(&mut book, &BeforeNprr1149)?;
-    check_text(&rt, &book, 11894, 2271827892844006265, &mut [7; 12_300])
+    check_text(&book, 11894, 2271827892844006265, &mut [7; 12_300])
 }

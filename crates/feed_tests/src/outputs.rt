@@ -1,4 +1,5 @@
 // Where texts go: before any issue, into outputs of every length around the text's own, and a fault's line likewise.
+use crate::checks::agree;
 use crate::feeds::SAMPLE;
 use crate::printed::issue_under;
 use book::book::Book;
@@ -9,7 +10,6 @@ use market::resource::ResourceRow;
 use statement::fault_line::fault_line;
 use statement::length::length;
 use statement::statement::text;
-use std::process::Abort;
 use std::test::Fail;
 use terms::fault::{Fault, Layer};
 use terms::refusal::Refusal;
@@ -39,38 +39,47 @@ fn before_any_issue(rt: HostRuntime) {
 
 // An answer for a text of these bytes, and what the output then holds: the text and the rest as it was, or all as it was.
 fn check_written(
-    rt: &impl Abort,
     out: &[u8],
     room: usize,
     answer: Result<usize, Refusal>,
     written: &[u8],
-) {
-    let fits = written.len() <= room;
-    if fits {
-        assert_eq!(rt; answer, Ok(written.len()));
+) -> Result<(), Fail> {
+    let bytes = written.len();
+    let fits = bytes <= room;
+    let expected = if fits {
+        Ok(bytes)
     } else {
-        assert_eq!(rt; answer, Err(Refusal::OutputTooShort));
-    }
+        Err(Refusal::OutputTooShort)
+    };
+    agree(
+        answer,
+        expected,
+        format_args!("room {room} for {bytes} bytes"),
+    )?;
     for (place, byte) in out.iter().enumerate() {
-        match written.get(place) {
-            Some(expected) if fits => assert_eq!(rt; *byte, *expected),
-            _ => assert_eq!(rt; *byte, 7),
-        }
+        let expected = match written.get(place) {
+            Some(expected) if fits => *expected,
+            _ => 7,
+        };
+        agree(
+            *byte,
+            expected,
+            format_args!("room {room} for {bytes} bytes, at {place}"),
+        )?;
     }
+    Ok(())
 }
 
 // The text of the sample's first statement into so many bytes of an output.
-fn check_text(rt: &impl Abort, book: &Book, room: usize, out: &mut [u8]) {
-    assert!(rt; room <= out.len());
-    let answer = text(book, &mut out[0..room]);
-    check_written(rt, out, room, answer, STATED);
+fn check_text(book: &Book, room: usize, out: &mut [u8]) -> Result<(), Fail> {
+    let answer = text(book, out.get_mut(..room).ok_or("not so much room")?);
+    check_written(out, room, answer, STATED)
 }
 
 // The longest line of a fault likewise.
-fn check_line(rt: &impl Abort, room: usize, out: &mut [u8]) {
-    assert!(rt; room <= out.len());
-    let answer = fault_line(&FAULT, &mut out[0..room]);
-    check_written(rt, out, room, answer, LINE);
+fn check_line(room: usize, out: &mut [u8]) -> Result<(), Fail> {
+    let answer = fault_line(&FAULT, out.get_mut(..room).ok_or("not so much room")?);
+    check_written(out, room, answer, LINE)
 }
 
 #[test]
@@ -81,8 +90,8 @@ fn every_room(rt: HostRuntime) -> Result<(), Fail> {
     assert_eq!(rt; feed(&mut book, &SAMPLE), Ok(6));
     issue_under(&mut book, &BeforeNprr1149)?;
     for room in 0..60usize {
-        check_text(&rt, &book, room, &mut [7; 60]);
-        check_line(&rt, room, &mut [7; 60]);
+        check_text(&book, room, &mut [7; 60])?;
+        check_line(room, &mut [7; 60])?;
     }
     Ok(())
 }

@@ -7,7 +7,6 @@ use editions::nprr1196::Nprr1196;
 use feed::feed::feed;
 use statement::fault_line::fault_line;
 use statement::statement::text;
-use std::process::Abort;
 use std::test::Fail;
 use terms::refusal::Refusal;
 
@@ -22,15 +21,13 @@ pub(crate) fn issue_under<E: Edition>(book: &mut Book, edition: &E) -> Result<()
 
 // Adds the text of a statement under an edition to what is printed, and answers where it ends.
 pub(crate) fn add_statement<E: Edition>(
-    rt: &impl Abort,
     book: &mut Book,
     edition: &E,
     out: &mut [u8],
     end: usize,
 ) -> Result<usize, Fail> {
     issue_under(book, edition)?;
-    assert!(rt; end <= out.len());
-    let count = text(book, &mut out[end..])?;
+    let count = text(book, out.get_mut(end..).ok_or("no room left")?)?;
     match end.checked_add(count) {
         Some(end) => Ok(end),
         None => Err(Fail::new("no such place")),
@@ -38,18 +35,13 @@ pub(crate) fn add_statement<E: Edition>(
 }
 
 // The statements under the three editions, or the fault; answers how many bytes were printed.
-pub(crate) fn printed(
-    rt: &impl Abort,
-    book: &mut Book,
-    words: &[u32],
-    out: &mut [u8],
-) -> Result<usize, Fail> {
+pub(crate) fn printed(book: &mut Book, words: &[u32], out: &mut [u8]) -> Result<usize, Fail> {
     match feed(book, words) {
         Err(fault) => Ok(fault_line(&fault, out)?),
         Ok(_) => {
-            let end = add_statement(rt, book, &BeforeNprr1149, out, 0)?;
-            let end = add_statement(rt, book, &Nprr1149, out, end)?;
-            add_statement(rt, book, &Nprr1196, out, end)
+            let end = add_statement(book, &BeforeNprr1149, out, 0)?;
+            let end = add_statement(book, &Nprr1149, out, end)?;
+            add_statement(book, &Nprr1196, out, end)
         }
     }
 }

@@ -1,11 +1,11 @@
 // An hour that is restated after a corrected price and after corrected telemetry, worked by hand in docs/WORKED.md.
+use crate::checks::agree;
 use crate::printed::add_statement;
 use book::book::Book;
 use editions::nprr1149::Nprr1149;
 use feed::feed::feed;
 use history::account::Account;
 use market::resource::ResourceRow;
-use std::process::Abort;
 use std::test::Fail;
 
 // what is fed before each statement, and how many groups that is
@@ -53,11 +53,11 @@ const PRINTED: &[u8] =
     b"book 7\n60 U 21200 6523\n61 U 0 14677\ntotal 21200 21200\nbook 7\n60 U -3780 -1163\n61 U 0 -2617\ntotal -3780 -3780\nbook 7\n60 U -9020 -2776\n61 U 0 -6244\ntotal -9020 -9020\n";
 
 // Feeds each stage and adds its statement to what is printed; answers where that ends.
-fn stated(rt: &impl Abort, book: &mut Book, out: &mut [u8]) -> Result<usize, Fail> {
+fn stated(book: &mut Book, out: &mut [u8]) -> Result<usize, Fail> {
     let mut end = 0;
     for (words, groups) in STAGES {
-        assert_eq!(rt; feed(book, words), Ok(groups));
-        end = add_statement(rt, book, &Nprr1149, out, end)?;
+        agree(feed(book, words), Ok(groups), "a feed")?;
+        end = add_statement(book, &Nprr1149, out, end)?;
     }
     Ok(end)
 }
@@ -68,7 +68,7 @@ fn restated(rt: HostRuntime) -> Result<(), Fail> {
     let mut resources = [ResourceRow::empty(); 256];
     let mut book = Book::opened(7, &mut qses, &mut resources);
     let mut out = [0u8; 1_000];
-    let end = stated(&rt, &mut book, &mut out)?;
+    let end = stated(&mut book, &mut out)?;
     assert!(rt; end <= 1_000);
     assert_eq!(rt; &out[0..end], PRINTED);
     let (charge, credit) = book.read(60, 'U')?;

@@ -1,8 +1,7 @@
 // Lines with the words that they make, lines that make none, and lines with what is wrong with them.
 use packing::line::group_of;
-use packing::pack::packed;
+use packing::pack::{GroupWords, packed};
 use packing::wrong::Wrong;
-use std::process::Abort;
 use std::test::Fail;
 
 const GIVEN: [(&str, &[u32]); 14] = [
@@ -60,18 +59,19 @@ const REFUSED: [(&str, Wrong); 24] = [
     ("quantities 10 DD 1 2 3 4 5 6 7 8 9 10", Wrong::NotALetter),
 ];
 
-fn check_words(rt: &impl Abort, line: &str, words: &[u32]) -> Result<(), Fail> {
-    let Some(group) = group_of(line)? else {
-        return Err(Fail::new("no group"));
+// The words of the group that a line holds.
+fn words_of(line: &str) -> Result<GroupWords, Fail> {
+    let group = group_of(line).map_err(|wrong| Fail::new(format_args!("{line}: {wrong:?}")))?;
+    let Some(group) = group else {
+        return Err(Fail::new(format_args!("{line}: no group")));
     };
-    assert_eq!(rt; packed(&group).as_slice(), words);
-    Ok(())
+    Ok(packed(&group))
 }
 
 #[test]
 fn lines_make_their_words(rt: HostRuntime) -> Result<(), Fail> {
     for (line, words) in GIVEN {
-        check_words(&rt, line, words).note(line)?;
+        assert_eq!(rt; words_of(line)?.as_slice(), words, "{line}");
     }
     Ok(())
 }
@@ -79,7 +79,7 @@ fn lines_make_their_words(rt: HostRuntime) -> Result<(), Fail> {
 #[test]
 fn blank_lines_make_none(rt: HostRuntime) -> Result<(), Fail> {
     for line in BLANK {
-        assert!(rt; group_of(line)?.is_none(), "{}", line);
+        assert!(rt; group_of(line)?.is_none(), "{line}");
     }
     Ok(())
 }
@@ -87,6 +87,6 @@ fn blank_lines_make_none(rt: HostRuntime) -> Result<(), Fail> {
 #[test]
 fn wrong_lines_say_what_is_wrong(rt: HostRuntime) {
     for (line, wrong) in REFUSED {
-        assert_eq!(rt; group_of(line).err(), Some(wrong), "{}", line);
+        assert_eq!(rt; group_of(line).err(), Some(wrong), "{line}");
     }
 }

@@ -1,3 +1,5 @@
+#![tactic(auto)]
+
 // Tests of the libraries from outside, in a crate of their own so that a library is proved once.
 #[cfg(test)]
 mod apportion_refuses;

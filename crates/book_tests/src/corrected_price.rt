@@ -48,10 +48,10 @@ fn corrected_price(rt: HostRuntime) -> Result<(), Fail> {
     let mut book = Book::opened(7, &mut qses, &mut resources);
     sample_hour(&mut book)?;
     issue_under(&mut book, &BeforeNprr1149)?;
-    check_lines(&rt, &book, STATED)?;
+    check_lines(&book, STATED)?;
     for corrected in CORRECTED {
         restate(&mut book, corrected.sasm)?;
-        check_lines(&rt, &book, corrected.lines)?;
+        check_lines(&book, corrected.lines)?;
         assert_eq!(rt; billed(&book, 10, 'D')?, corrected.billed[0]);
         assert_eq!(rt; billed(&book, 20, 'D')?, corrected.billed[1]);
     }

@@ -18,7 +18,7 @@ fn no_loads(rt: HostRuntime) -> Result<(), Fail> {
     book.enrol(10, 0)?;
     book.enrol(20, 0)?;
     issue_under(&mut book, &BeforeNprr1149)?;
-    check_lines(&rt, &book, [(7_700, 0), (0, 0)])?;
+    check_lines(&book, [(7_700, 0), (0, 0)])?;
     assert_eq!(rt; billed(&book, 10, 'D')?, (7_700, 0));
     assert_eq!(rt; billed(&book, 20, 'D')?, (0, 0));
     Ok(())

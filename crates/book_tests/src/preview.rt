@@ -57,11 +57,11 @@ fn preview(rt: HostRuntime) -> Result<(), Fail> {
     sample_hour(&mut book)?;
     let previewed = issued(&mut book)?;
     assert_eq!(rt; previewed, [Ok(STATED[0]), Ok(STATED[1])]);
-    check_lines(&rt, &book, STATED)?;
+    check_lines(&book, STATED)?;
     let (settled, refused) = dropped(&mut book)?;
     assert_eq!(rt; settled, [Ok((0, 0)), Ok((0, 0))]);
     assert_eq!(rt; refused, REFUSED);
-    check_lines(&rt, &book, STATED)
+    check_lines(&book, STATED)
 }
 
 #[test]
@@ -71,7 +71,7 @@ fn dropped_draft(rt: HostRuntime) -> Result<(), Fail> {
     let mut book = Book::opened(7, &mut qses, &mut resources);
     sample_hour(&mut book)?;
     drop_under(&mut book, &BeforeNprr1149)?;
-    check_lines(&rt, &book, [(0, 0), (0, 0)])?;
+    check_lines(&book, [(0, 0), (0, 0)])?;
     assert_eq!(rt; billed(&book, 10, 'D')?, (0, 0));
     // what was dropped is settled anew
     let previewed = issued(&mut book)?;

@@ -57,11 +57,11 @@ fn refused_calls(rt: HostRuntime) -> Result<(), Fail> {
     issue_under(&mut book, &BeforeNprr1149)?;
     check_refused(&mut book)?;
     check_unread(&book)?;
-    check_lines(&rt, &book, STATED)?;
+    check_lines(&book, STATED)?;
     assert_eq!(rt; billed(&book, 10, 'D')?, (7_700, 2_566));
     // this edition looks at rows and prices alike: they are as before
     issue_under(&mut book, &Nprr1149)?;
-    check_lines(&rt, &book, [(1_800, 600), (0, 1_200)])
+    check_lines(&book, [(1_800, 600), (0, 1_200)])
 }
 
 // Whether each call that would else be taken is refused.
@@ -107,7 +107,7 @@ fn refused_while_drafted(rt: HostRuntime) -> Result<(), Fail> {
     let (refused, second) = while_drafted(&mut book)?;
     assert!(rt; refused);
     assert_eq!(rt; second, Refusal::DraftOpen);
-    check_lines(&rt, &book, STATED)?;
+    check_lines(&book, STATED)?;
     // the draft is closed, so the same calls are taken
     for setting in LAWFUL {
         set(&mut book, setting)?;

@@ -1,4 +1,5 @@
 // Drafts in two books: a draft carries its book's number alone.
+use crate::checks::agree;
 use crate::drafts::{draft_under, issue_open};
 use crate::sample::{STATED, sample_hour};
 use crate::shown::{check_lines, fingerprint};
@@ -6,7 +7,6 @@ use book::book::Book;
 use editions::before_nprr1149::BeforeNprr1149;
 use history::account::Account;
 use market::resource::ResourceRow;
-use std::process::Abort;
 use std::test::Fail;
 use terms::refusal::Refusal;
 
@@ -46,24 +46,30 @@ fn previewed_elsewhere(
 }
 
 // The other book refuses the draft and stays as it was; its own book issues it.
-fn check_refused(
-    rt: &impl Abort,
-    own: &mut Book,
-    other: &mut Book,
-    refusal: Refusal,
-) -> Result<(), Fail> {
+fn check_refused(own: &mut Book, other: &mut Book, refusal: Refusal) -> Result<(), Fail> {
     let before = fingerprint(other);
-    assert_eq!(rt; issued_elsewhere(own, other)?, Some(refusal));
-    check_lines(rt, own, STATED)?;
-    assert_eq!(rt; dropped_elsewhere(own, other)?, Some(refusal));
-    check_lines(rt, own, [(0, 0), (0, 0)])?;
-    assert_eq!(rt; previewed_elsewhere(own, other)?, Err(refusal));
-    assert_eq!(rt; fingerprint(other), before);
-    Ok(())
+    agree(
+        issued_elsewhere(own, other)?,
+        Some(refusal),
+        "issued elsewhere",
+    )?;
+    check_lines(own, STATED)?;
+    agree(
+        dropped_elsewhere(own, other)?,
+        Some(refusal),
+        "dropped elsewhere",
+    )?;
+    check_lines(own, [(0, 0), (0, 0)])?;
+    agree(
+        previewed_elsewhere(own, other)?,
+        Err(refusal),
+        "previewed elsewhere",
+    )?;
+    agree(fingerprint(other), before, "the other book")
 }
 
 // Two books of the sample hour with these numbers.
-fn check_two_books(rt: &impl Abort, own: u32, other: u32, refusal: Refusal) -> Result<(), Fail> {
+fn check_two_books(own: u32, other: u32, refusal: Refusal) -> Result<(), Fail> {
     let mut qses = [Account::new(0, 0); 2];
     let mut resources = [ResourceRow::empty(); 1];
     let mut own = Book::opened(own, &mut qses, &mut resources);
@@ -72,18 +78,18 @@ fn check_two_books(rt: &impl Abort, own: u32, other: u32, refusal: Refusal) -> R
     let mut resources = [ResourceRow::empty(); 1];
     let mut other = Book::opened(other, &mut qses, &mut resources);
     sample_hour(&mut other)?;
-    check_refused(rt, &mut own, &mut other, refusal)
+    check_refused(&mut own, &mut other, refusal)
 }
 
 #[test]
-fn other_number(rt: HostRuntime) -> Result<(), Fail> {
-    check_two_books(&rt, 7, 8, Refusal::OtherBook)
+fn other_number() -> Result<(), Fail> {
+    check_two_books(7, 8, Refusal::OtherBook)
 }
 
 // The other book of the same number has no draft open.
 #[test]
-fn no_draft_open(rt: HostRuntime) -> Result<(), Fail> {
-    check_two_books(&rt, 7, 7, Refusal::NoDraft)
+fn no_draft_open() -> Result<(), Fail> {
+    check_two_books(7, 7, Refusal::NoDraft)
 }
 
 // Each book issues the other's draft, if it takes it; whether both did.
@@ -120,6 +126,6 @@ fn same_number(rt: HostRuntime) -> Result<(), Fail> {
     let mut two = Book::opened(7, &mut qses, &mut resources);
     sample_hour(&mut two)?;
     assert!(rt; exchanged(&mut one, &mut two)?);
-    check_lines(&rt, &one, STATED)?;
-    check_lines(&rt, &two, STATED)
+    check_lines(&one, STATED)?;
+    check_lines(&two, STATED)
 }

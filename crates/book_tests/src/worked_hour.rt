@@ -19,11 +19,11 @@ fn worked_hour(rt: HostRuntime) -> Result<(), Fail> {
     let mut book = Book::opened(7, &mut qses, &mut resources);
     sample_hour(&mut book)?;
     issue_under(&mut book, &BeforeNprr1149)?;
-    check_lines(&rt, &book, STATED)?;
+    check_lines(&book, STATED)?;
     issue_under(&mut book, &Nprr1149)?;
-    check_lines(&rt, &book, [(1_800, 600), (0, 1_200)])?;
+    check_lines(&book, [(1_800, 600), (0, 1_200)])?;
     issue_under(&mut book, &Nprr1196)?;
-    check_lines(&rt, &book, [(0, 0), (0, 0)])?;
+    check_lines(&book, [(0, 0), (0, 0)])?;
     assert_eq!(rt; billed(&book, 10, 'D')?, (9_500, 3_166));
     assert_eq!(rt; billed(&book, 20, 'D')?, (0, 6_334));
     assert_eq!(rt; billed(&book, 10, 'U')?, (0, 0));

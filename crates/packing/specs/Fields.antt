@@ -26,12 +26,12 @@ abbrev pub valued : Result Figure Wrong → Result ℕ Wrong
 valued (Ok f) = Ok f.value
 valued (Err w) = Err w
 
-abbrev pub or_not_aLetter : Result Service Refusal → Result Service Wrong
-or_not_aLetter (Ok s) = Ok s
-or_not_aLetter (Err r) = Err NotALetter
+abbrev pub or_not_a_letter : Result Service Refusal → Result Service Wrong
+or_not_a_letter (Ok s) = Ok s
+or_not_a_letter (Err r) = Err NotALetter
 
 -- the service of a field of one letter
 abbrev pub service_of_field : List ℕ → Result Service Wrong
 service_of_field [] = Err NotALetter
-service_of_field (c ∷ []) = or_not_aLetter (service_of_letter c)
+service_of_field (c ∷ []) = or_not_a_letter (service_of_letter c)
 service_of_field (c ∷ d ∷ rest) = Err NotALetter

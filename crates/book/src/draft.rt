@@ -1,22 +1,25 @@
 // A draft of a book: a token that carries the book's number alone, and is spent once.
+ghost use Rattle.std.specs.Prelude.{◌≡◌, true};
 
-// It is neither Copy nor ever let go: issue or drop it.
+// It is neither Copy nor let go before it is spent: issue or drop it.
 pub struct Draft {
     pub(crate) book: u32,
+    // only an issue or a drop makes it so, and takes the draft then
+    pub(crate) spent: bool,
 }
 
-// No caller can show what this asks, so a program that lets a draft vanish is not proved.
+// No caller holds a draft that was spent, so a program that lets a draft vanish is not proved.
 impl Drop for Draft {
     fn drop(self)
-        requires { ⊥ }
+        requires { self.spent ≡ true }
     {
-        let Draft { book: _ } = self;
+        let Draft { book: _, spent: _ } = self;
     }
 }
 
 impl Draft {
     // Ends the draft, whose statement was issued or which was dropped.
-    pub(crate) fn spend(self) {
-        let Draft { book: _ } = self;
+    pub(crate) fn spend(mut self) {
+        self.spent = true;
     }
 }

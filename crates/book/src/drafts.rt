@@ -1,5 +1,5 @@
 // The calls that open a book, and that take, issue and drop its drafts.
-ghost use Rattle.std.specs.Prelude.{◌≡◌, ◌≤◌, [], ◌∷◌, length, IfOk};
+ghost use Rattle.std.specs.Prelude.{◌≡◌, ◌≤◌, false, [], ◌∷◌, length, IfOk};
 ghost use Rattle.table.specs.Rows.{AllSound};
 ghost use Rattle.history.specs.Accounts.{account_kept};
 ghost use Rattle.history.specs.Called.{Called};
@@ -43,6 +43,7 @@ impl<'a> Book<'a> {
     pub fn draft<E: Edition>(&mut self, edition: &E) -> Result<Draft, Refusal>
         ensures called { Called (view self.old) (draft_call (E.Edition.meaning edition.now)) (said result) (view self.new) }
         ensures carries { IfOk result (λ d. d.book ≡ self.old.number) }
+        ensures unspent { IfOk result (λ d. d.spent ≡ false) }
     {
         if self.drafted {
             return Err(Refusal::DraftOpen);
@@ -50,7 +51,10 @@ impl<'a> Book<'a> {
         let prices = self.prices;
         settle_table(edition, &prices, &mut self.accounts, &self.resources);
         self.drafted = true;
-        Ok(Draft { book: self.number })
+        Ok(Draft {
+            book: self.number,
+            spent: false,
+        })
     }
 
     // Takes the draft; nothing is billed.

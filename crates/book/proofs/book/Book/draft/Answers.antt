@@ -6,7 +6,7 @@ use Rattle.book.specs.View.{view}
 use Rattle.book.proofs.book.Book.draft.Goals as goal
 
 pub returns-then-self : goal.returns-then-self
-returns-then-self g c = record { called = called_refused (view c.args.self.now) _ (draft (g.E.Edition.meaning c.args.edition.now)) DraftOpen (ap (λ d. unless (not d) DraftOpen None) c.if-self.true) refl; carries = tt }
+returns-then-self g c = record { called = called_refused (view c.args.self.now) _ (draft (g.E.Edition.meaning c.args.edition.now)) DraftOpen (ap (λ d. unless (not d) DraftOpen None) c.if-self.true) refl; carries = tt; unspent = tt }
 
 pub invariant_of-self : goal.invariant_of-self
 invariant_of-self g c =
@@ -19,4 +19,4 @@ returns g c =
     let s = view b in
     let all = c.settle_table.ensures.after b.accounting b.few_qses b.resourcing b.few_resources in
     let room = c.settle_table.ensures.capacity in
-    record { called = called_granted s _ (draft (g.E.Edition.meaning c.args.edition.now)) _ (ap (λ d. unless (not d) DraftOpen None) c.if-self.false) refl (λ i. record { number = s.number; qse_slots = room i; resource_slots = s.resource_slots; qses = all i; resources = s.resources; prices = s.prices; drafted = true; issued = s.issued }); carries = refl }
+    record { called = called_granted s _ (draft (g.E.Edition.meaning c.args.edition.now)) _ (ap (λ d. unless (not d) DraftOpen None) c.if-self.false) refl (λ i. record { number = s.number; qse_slots = room i; resource_slots = s.resource_slots; qses = all i; resources = s.resources; prices = s.prices; drafted = true; issued = s.issued }); carries = refl; unspent = refl }

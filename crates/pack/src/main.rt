@@ -3,6 +3,7 @@
 mod text;
 
 use std::io::{Read, Write};
+use std::process::ExitCode;
 use text::packed_text;
 
 fn run(rt: &HostRuntime) -> anyhow::Result<()> {
@@ -13,10 +14,10 @@ fn run(rt: &HostRuntime) -> anyhow::Result<()> {
     Ok(())
 }
 
-fn main(rt: HostRuntime) -> anyhow::Result<()> {
-    let result = run(&rt);
-    if let Err(wrong) = &result {
+fn main(rt: HostRuntime) -> anyhow::Result<ExitCode> {
+    if let Err(wrong) = run(&rt) {
         eprintln!(rt; "{wrong}")?;
+        return Ok(ExitCode::FAILURE);
     }
-    result
+    Ok(ExitCode::SUCCESS)
 }

@@ -1,7 +1,7 @@
 //! Compares the program `hour` with a second implementation in plain Rust, which was written from docs/RULES.md alone:
 //! random feeds, valid, full and damaged, go through both, and what they print is compared byte by byte.
 //!
-//!     cargo run --release -- ../target/bin/hour COUNT [SEED]
+//!     cargo run --release -- ../crates/hour/out/hour COUNT [SEED]
 
 mod check;
 mod feeds;

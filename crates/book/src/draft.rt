@@ -1,4 +1,4 @@
-// A draft of a book: a token that carries the book's number alone, and is spent once.
+// A draft of a book: a token that carries the book's number, and is spent once.
 ghost use Rattle.std.specs.Prelude.{◌≡◌, true};
 
 // It is neither Copy nor let go before it is spent: issue or drop it.

@@ -1,5 +1,7 @@
 // Reads the words of an hour from standard input, feeds them to a book, issues a statement under each edition and
 // prints it; a feed with a fault prints the fault's line instead.
+#![tactic(auto)]
+
 mod failure;
 mod input;
 mod statements;

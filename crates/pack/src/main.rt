@@ -1,5 +1,7 @@
 // Packs a feed: reads its text form on standard input and writes its words on standard output, four bytes to a word,
 // the least first. Words are written only once every line was read, so a damaged text never becomes half a feed.
+#![tactic(auto)]
+
 mod text;
 
 use std::io::{Read, Write};

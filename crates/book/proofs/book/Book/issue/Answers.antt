@@ -1,4 +1,4 @@
-use Rattle.std.proofs.Common.{◌≡◌, true, false, List, [], ◌∷◌, map, refl, ap, ◌∙◌, arith}
+use Rattle.std.proofs.Common.{◌≡◌, true, false, List, [], ◌∷◌, map, refl, ap, ◌∙◌}
 use Rattle.table.specs.Tables.{rows}
 use Rattle.history.specs.declared.account.Account.{Account}
 use Rattle.history.specs.Settlement.{line_of, billed_account}
@@ -19,11 +19,6 @@ law_after k h l = law_at (k.history h l)
 lines_kept : (xs : List Account) → map (λ (a : Account). let l : Line = record { qse = a.row.number; figures = a.line } in l) (map billed_account xs) ≡ map (λ (a : Account). let l : Line = record { qse = a.row.number; figures = line_of a } in l) xs
 lines_kept [] = refl
 lines_kept (x ∷ xs) = ap (λ r. record { qse = x.row.number; figures = line_of x } ∷ r) (lines_kept xs)
-
-pub invariant_of-self : goal.invariant_of-self
-invariant_of-self c =
-    let b = c.args.self.now in
-    record { accounting = c.bill_table.ensures.sound b.accounting; resourcing = b.resourcing; keeping = c.bill_table.ensures.kept b.accounting b.keeping; few_qses = omega (arith, b.few_qses, c.bill_table.ensures.capacity); few_resources = b.few_resources }
 
 pub returns-in-Err : goal.returns-in-Err
 returns-in-Err c =

@@ -15,12 +15,6 @@ returns-in_err-tested_strike c =
     let s = view c.args.self.now in
     rw (p.1, p.2) (record { called = called_refused s _ (strike c.args.resource) _ (strike_refused s c.args.resource _ c.in_err-tested_strike.ensures.tested) refl })
 
--- the table of resources stays sound and as large as it was
-pub invariant_of-self : goal.invariant_of-self
-invariant_of-self c =
-    let b = c.args.self.now in
-    record { accounting = b.accounting; resourcing = c.remove.ensures.sound b.resourcing; keeping = b.keeping; few_qses = b.few_qses; few_resources = rw c.remove.ensures.capacity b.few_resources }
-
 pub returns-in-Ok : goal.returns-in-Ok
 returns-in-Ok c =
     let b = c.args.self.now in

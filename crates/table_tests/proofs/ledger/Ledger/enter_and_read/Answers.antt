@@ -1,5 +1,5 @@
 -- A row just put is found under its number.
-use Rattle.std.proofs.Common.{◌≡◌, Bool, true, false, cond, List, Some, Option, sym, refl, ap, ◌∙◌}
+use Rattle.std.proofs.Common.{◌≡◌, Bool, true, false, cond, List, Some, refl, ap, ◌∙◌}
 use Rattle.table.specs.Rows.{found, put}
 use Rattle.table.specs.Tables.{rows}
 use Rattle.table.proofs.Laws.{found_put_same}

@@ -1,4 +1,4 @@
-use Rattle.std.proofs.Common.{ℕ, Ok, ap, ◌∙◌}
+use Rattle.std.proofs.Common.{ℕ, Ok, ap, ◌∙◌, arith}
 use Rattle.terms.specs.Services.{of}
 use Rattle.book.specs.View.{view}
 use Rattle.book.proofs.Asking.{asked_answers}
@@ -9,12 +9,14 @@ use Rattle.book.proofs.book.Book.read.Goals as goal
 pub invariant_of-result : goal.invariant_of-result
 invariant_of-result c =
     let l = billed_pair c.in_ok-service.account c.in_ok-service.service c.in_ok-service.ensures.sound in
-    record { within = rw c.of-charge.ensures.answer l.0 }
+    let e = c.of-charge.ensures.answer in
+    record { within = omega (arith, ap (λ (p : ℕ × ℕ). p.0) e, ap (λ (p : ℕ × ℕ). p.1) e, l.0, l.1) }
 
 pub invariant_of-result-2 : goal.invariant_of-result-2
 invariant_of-result-2 c =
     let l = billed_pair c.in_ok-service.account c.in_ok-service.service c.in_ok-service.ensures.sound in
-    record { within = rw c.of-charge.ensures.answer l.1 }
+    let e = c.of-charge.ensures.answer in
+    record { within = omega (arith, ap (λ (p : ℕ × ℕ). p.0) e, ap (λ (p : ℕ × ℕ). p.1) e, l.0, l.1) }
 
 pub returns : goal.returns
 returns c =

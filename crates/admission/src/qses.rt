@@ -19,7 +19,7 @@ pub fn tested_enrol(drafted: bool, qse: u32, load: u32) -> Result<(), Refusal>
     if drafted {
         return Err(Refusal::DraftOpen);
     }
-    QseNumber::check(qse)?;
+    QseNumber::try_from(qse)?;
     if load > 20_000 {
         return Err(Refusal::FigureOutOfRange);
     }
@@ -38,9 +38,9 @@ pub fn tested_quantities(
     if drafted {
         return Err(Refusal::DraftOpen);
     }
-    QseNumber::check(qse)?;
-    let service = Service::check(service)?;
-    Quantities::check(bare)?;
+    QseNumber::try_from(qse)?;
+    let service = Service::try_from(service)?;
+    Quantities::try_from(bare)?;
     Ok(service)
 }
 

@@ -24,10 +24,10 @@ pub fn tested_enter(
     if drafted {
         return Err(Refusal::DraftOpen);
     }
-    ResourceNumber::check(resource)?;
-    QseNumber::check(qse)?;
-    let class = Class::check(class)?;
-    Figures::check(figures)?;
+    ResourceNumber::try_from(resource)?;
+    QseNumber::try_from(qse)?;
+    let class = Class::try_from(class)?;
+    Figures::try_from(figures)?;
     Ok(class)
 }
 
@@ -38,6 +38,6 @@ pub fn tested_strike(drafted: bool, resource: u32) -> Result<(), Refusal>
     if drafted {
         return Err(Refusal::DraftOpen);
     }
-    ResourceNumber::check(resource)?;
+    ResourceNumber::try_from(resource)?;
     Ok(())
 }

@@ -24,8 +24,8 @@ pub fn tested_prices(
     if drafted {
         return Err(Refusal::DraftOpen);
     }
-    let service = Service::check(service)?;
-    let prices = ServicePrices::check(bare)?;
+    let service = Service::try_from(service)?;
+    let prices = ServicePrices::try_from(bare)?;
     Ok((service, prices))
 }
 
@@ -40,7 +40,7 @@ pub fn tested_interval(
     if drafted {
         return Err(Refusal::DraftOpen);
     }
-    let interval = Interval::check(interval)?;
-    let prices = IntervalPrices::check(bare)?;
+    let interval = Interval::try_from(interval)?;
+    let prices = IntervalPrices::try_from(bare)?;
     Ok((interval, prices))
 }

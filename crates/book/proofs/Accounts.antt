@@ -4,7 +4,7 @@ use Rattle.std.proofs.lemmas.Bool.{or_left, cond-true, cond-false, cond_both}
 use Rattle.terms.specs.declared.service.Service.{Service}
 use Rattle.terms.specs.declared.service.Service.TheVariants.{RegUp, RegDown, Responsive, NonSpin, Ecrs}
 use Rattle.terms.specs.declared.refusal.Refusal.TheVariants.{DraftOpen, NumberOutOfRange, FigureOutOfRange, NotEnrolled, NoFreeSlot}
-use Rattle.market.specs.declared.quantities.BareQuantities.{BareQuantities}
+use Rattle.market.specs.Shapes.{BareQuantities}
 use Rattle.market.specs.Bare.{no_quantities}
 use Rattle.market.specs.Limits.{numbered, load_within, quantities_within}
 use Rattle.terms.specs.Services.{service_of, of}

@@ -2,8 +2,8 @@
 use Rattle.std.proofs.Common.{◌≡◌, ℕ, Ok, sym, ap}
 use Rattle.terms.specs.declared.service.Service.{Service}
 use Rattle.terms.specs.declared.interval.Interval.{Interval}
-use Rattle.market.specs.declared.prices.BareServicePrices.{BareServicePrices}
-use Rattle.market.specs.declared.prices.BareIntervalPrices.{BareIntervalPrices}
+use Rattle.market.specs.Shapes.{BareServicePrices}
+use Rattle.market.specs.Shapes.{BareIntervalPrices}
 use Rattle.terms.specs.Services.{service_of, with_service}
 use Rattle.terms.specs.Intervals.{interval_of, with_interval}
 use Rattle.history.specs.Calls.{State, prices, interval, carried_out, with_read, with_prices}

@@ -2,7 +2,7 @@
 use Rattle.std.proofs.Common.{◌≡◌, ℕ, true, false, not, ◌&&◌, List, is_ok, Some, None, Ok, Option, sym, ap, ◌∙◌}
 use Rattle.std.proofs.lemmas.Bool.{and_from, and_parts}
 use Rattle.terms.specs.declared.class.Class.{Class}
-use Rattle.market.specs.declared.figures.BareFigures.{BareFigures}
+use Rattle.market.specs.Shapes.{BareFigures}
 use Rattle.market.specs.declared.resource.ResourceRow.{ResourceRow}
 use Rattle.terms.specs.declared.refusal.Refusal.{Refusal}
 use Rattle.terms.specs.declared.refusal.Refusal.TheVariants.{DraftOpen, NumberOutOfRange, FigureOutOfRange, NotEnrolled, NoSuchResource, NoFreeSlot}

@@ -4,10 +4,10 @@ use Rattle.std.specs.Option.{option_map}
 use Rattle.terms.specs.declared.fault.Fault.{Fault}
 use Rattle.terms.specs.declared.fault.Layer.{Layer}
 use Rattle.terms.specs.declared.fault.Layer.TheVariants.{Words, Groups}
-use Rattle.market.specs.declared.figures.BareFigures.{BareFigures}
-use Rattle.market.specs.declared.prices.BareIntervalPrices.{BareIntervalPrices}
-use Rattle.market.specs.declared.prices.BareServicePrices.{BareServicePrices}
-use Rattle.market.specs.declared.quantities.BareQuantities.{BareQuantities}
+use Rattle.market.specs.Shapes.{BareFigures}
+use Rattle.market.specs.Shapes.{BareIntervalPrices}
+use Rattle.market.specs.Shapes.{BareServicePrices}
+use Rattle.market.specs.Shapes.{BareQuantities}
 use Rattle.terms.specs.declared.refusal.Refusal.{Refusal}
 use Rattle.terms.specs.declared.refusal.Refusal.TheVariants.{UnknownHead, GroupCutShort, NotData}
 use Rattle.history.specs.Calls.{Call, enrol, quantities, enter, strike, prices, interval}

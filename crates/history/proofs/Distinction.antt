@@ -8,9 +8,9 @@ use Rattle.terms.specs.declared.service.Service.TheVariants.{RegUp, RegDown, Res
 use Rattle.terms.specs.declared.service.ByService.{ByService}
 use Rattle.terms.specs.declared.class.Class.{Class}
 use Rattle.market.specs.declared.resource.ResourceRow.{ResourceRow}
-use Rattle.market.specs.declared.figures.BareFigures.{BareFigures}
-use Rattle.market.specs.declared.quantities.BareQuantities.{BareQuantities}
-use Rattle.market.specs.declared.prices.BarePrices.{BarePrices}
+use Rattle.market.specs.Shapes.{BareFigures}
+use Rattle.market.specs.Shapes.{BareQuantities}
+use Rattle.market.specs.Shapes.{BarePrices}
 use Rattle.terms.specs.Services.{of}
 use Rattle.terms.specs.Classes.{class_number}
 use Rattle.market.specs.Limits.{quantities_within}

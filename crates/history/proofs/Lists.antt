@@ -9,7 +9,7 @@ use Rattle.table.specs.Rows.{Rising, found, put, removed}
 use Rattle.terms.specs.declared.service.Service.{Service}
 use Rattle.terms.specs.declared.class.Class.{Class}
 use Rattle.terms.specs.declared.class.Class.TheVariants.{Generation, ControllableLoad, OtherLoad}
-use Rattle.market.specs.declared.figures.BareFigures.{BareFigures}
+use Rattle.market.specs.Shapes.{BareFigures}
 use Rattle.market.specs.declared.resource.ResourceRow.{ResourceRow}
 use Rattle.terms.specs.Classes.{class_number}
 use Rattle.editions.specs.Meaning.{Meaning}

@@ -4,8 +4,8 @@ use Rattle.std.proofs.lemmas.List.{length-map}
 use Rattle.terms.specs.declared.service.Service.{Service}
 use Rattle.terms.specs.declared.refusal.Refusal.{Refusal}
 use Rattle.market.specs.declared.resource.ResourceRow.{ResourceRow}
-use Rattle.market.specs.declared.quantities.BareQuantities.{BareQuantities}
-use Rattle.market.specs.declared.prices.BarePrices.{BarePrices}
+use Rattle.market.specs.Shapes.{BareQuantities}
+use Rattle.market.specs.Shapes.{BarePrices}
 use Rattle.terms.specs.Services.{service_of}
 use Rattle.terms.specs.Intervals.{interval_of}
 use Rattle.terms.specs.Classes.{class_of}

@@ -7,7 +7,7 @@ use Rattle.terms.specs.declared.refusal.Refusal.{Refusal}
 use Rattle.terms.specs.declared.refusal.Refusal.TheVariants.{DraftOpen, NumberOutOfRange, FigureOutOfRange, NotEnrolled, NoFreeSlot}
 use Rattle.market.specs.declared.resource.ResourceRow.{ResourceRow}
 use Rattle.terms.specs.declared.service.Service.{Service}
-use Rattle.market.specs.declared.quantities.BareQuantities.{BareQuantities}
+use Rattle.market.specs.Shapes.{BareQuantities}
 use Rattle.terms.specs.Services.{service_of}
 use Rattle.terms.specs.Intervals.{interval_of}
 use Rattle.terms.specs.Classes.{class_of}

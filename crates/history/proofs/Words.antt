@@ -11,14 +11,14 @@ use Rattle.terms.specs.declared.interval.Interval.TheVariants.{First, Second, Th
 use Rattle.terms.specs.declared.refusal.Refusal.{Refusal}
 use Rattle.terms.specs.declared.refusal.Refusal.TheVariants.{DraftOpen, FigureOutOfRange, NumberOutOfRange, NotEnrolled}
 use Rattle.market.specs.declared.qse.QseRow.{QseRow}
-use Rattle.market.specs.declared.quantities.BareQuantities.{BareQuantities}
-use Rattle.market.specs.declared.prices.BareServicePrices.{BareServicePrices}
-use Rattle.market.specs.declared.prices.BareIntervalPrices.{BareIntervalPrices}
-use Rattle.terms.specs.Services.{service_of, service_number, of, with_service}
-use Rattle.terms.specs.Intervals.{interval_of, interval_number, of_interval, with_interval}
+use Rattle.market.specs.Shapes.{BareQuantities}
+use Rattle.market.specs.Shapes.{BareServicePrices}
+use Rattle.market.specs.Shapes.{BareIntervalPrices}
+use Rattle.terms.specs.Services.{service_of, service_number, always, of, with_service}
+use Rattle.terms.specs.Intervals.{interval_of, interval_number, every_interval, of_interval, with_interval}
 use Rattle.terms.specs.Classes.{class_of}
 use Rattle.market.specs.Limits.{numbered, quantities_within, service_prices_within, interval_prices_within}
-use Rattle.market.specs.Bare.{no_quantities, always, every_interval}
+use Rattle.market.specs.Bare.{no_quantities}
 use Rattle.terms.proofs.Settings.{of_with, service_number_lem, of_with_interval, interval_number_lem}
 use Rattle.table.specs.Rows.{found, known, put}
 use Rattle.table.proofs.Laws.{found_number, found_put_same, found_put_other}

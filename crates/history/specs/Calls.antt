@@ -5,16 +5,16 @@ use Rattle.terms.specs.declared.service.ByService.{ByService}
 use Rattle.terms.specs.declared.refusal.Refusal.{Refusal}
 use Rattle.terms.specs.declared.refusal.Refusal.TheVariants.{DraftOpen, NumberOutOfRange, FigureOutOfRange, NotEnrolled, NoSuchResource, NoFreeSlot, OtherBook, NoDraft}
 use Rattle.market.specs.declared.resource.ResourceRow.{ResourceRow}
-use Rattle.market.specs.declared.figures.BareFigures.{BareFigures}
-use Rattle.market.specs.declared.quantities.BareQuantities.{BareQuantities}
-use Rattle.market.specs.declared.prices.BareServicePrices.{BareServicePrices}
-use Rattle.market.specs.declared.prices.BareIntervalPrices.{BareIntervalPrices}
-use Rattle.market.specs.declared.prices.BarePrices.{BarePrices}
+use Rattle.market.specs.Shapes.{BareFigures}
+use Rattle.market.specs.Shapes.{BareQuantities}
+use Rattle.market.specs.Shapes.{BareServicePrices}
+use Rattle.market.specs.Shapes.{BareIntervalPrices}
+use Rattle.market.specs.Shapes.{BarePrices}
 use Rattle.market.specs.Limits.{numbered, load_within, quantities_within, figures_within, service_prices_within, interval_prices_within}
-use Rattle.terms.specs.Services.{service_of, service_of_letter, of, with_service}
+use Rattle.terms.specs.Services.{service_of, service_of_letter, always, of, with_service}
 use Rattle.terms.specs.Intervals.{interval_of, with_interval}
 use Rattle.terms.specs.Classes.{class_of}
-use Rattle.market.specs.Bare.{always, no_quantities, no_prices}
+use Rattle.market.specs.Bare.{no_quantities, no_prices}
 use Rattle.editions.specs.Meaning.{Meaning}
 use Rattle.table.specs.Rows.{found, known, put, fits, removed}
 use Rattle.history.specs.declared.account.Account.{Account}

@@ -7,11 +7,11 @@ use Rattle.terms.specs.declared.interval.Interval.TheVariants.{First, Second, Th
 use Rattle.terms.specs.declared.class.Class.{Class}
 use Rattle.terms.specs.declared.refusal.Refusal.{Refusal}
 use Rattle.market.specs.declared.resource.ResourceRow.{ResourceRow}
-use Rattle.market.specs.declared.figures.BareFigures.{BareFigures}
-use Rattle.market.specs.declared.quantities.BareQuantities.{BareQuantities}
-use Rattle.market.specs.declared.prices.BareServicePrices.{BareServicePrices}
-use Rattle.market.specs.declared.prices.BareIntervalPrices.{BareIntervalPrices}
-use Rattle.market.specs.declared.prices.BarePrices.{BarePrices}
+use Rattle.market.specs.Shapes.{BareFigures}
+use Rattle.market.specs.Shapes.{BareQuantities}
+use Rattle.market.specs.Shapes.{BareServicePrices}
+use Rattle.market.specs.Shapes.{BareIntervalPrices}
+use Rattle.market.specs.Shapes.{BarePrices}
 use Rattle.terms.specs.Services.{service_number, of}
 use Rattle.terms.specs.Intervals.{interval_number}
 use Rattle.terms.specs.Classes.{class_of, class_number}

@@ -2,7 +2,7 @@
 use Rattle.std.specs.Prelude.{◌≡◌, ℕ, ◌<◌, true, ◌⊎◌, List, ◌∷◌, pos, is_some, Some, None, Ok}
 use Rattle.terms.specs.declared.service.Service.{Service}
 use Rattle.terms.specs.declared.class.Class.{Class}
-use Rattle.market.specs.declared.figures.BareFigures.{BareFigures}
+use Rattle.market.specs.Shapes.{BareFigures}
 use Rattle.terms.specs.Services.{service_of_letter}
 use Rattle.editions.specs.Meaning.{Meaning}
 use Rattle.table.specs.Rows.{Rising}

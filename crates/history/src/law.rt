@@ -1,7 +1,7 @@
 // The law over every history of calls on a book, on a contract.
 ghost use Rattle.std.specs.Prelude.{◌≡◌, ℕ, ◌<◌, ◌⊎◌, pos, Some};
 ghost use Rattle.terms.specs.declared.class.Class.{Class};
-ghost use Rattle.market.specs.declared.figures.BareFigures.{BareFigures};
+ghost use Rattle.market.specs.Shapes.{BareFigures};
 ghost use Rattle.terms.specs.declared.service.Service.{Service};
 ghost use Rattle.editions.specs.Meaning.{Meaning};
 ghost use Rattle.history.specs.Calls.{State};

@@ -1,9 +1,9 @@
 use Rattle.std.proofs.Common.{◌≡◌, ◌≤◌, true, arith}
 use Rattle.std.proofs.lemmas.Bool.Decides.{nat_tests}
 use Rattle.terms.specs.declared.service.Service.{Service}
-use Rattle.market.specs.declared.quantities.BareQuantities.{BareQuantities}
-use Rattle.market.specs.declared.figures.BareFigures.{BareFigures}
-use Rattle.market.specs.declared.prices.BarePrices.{BarePrices}
+use Rattle.market.specs.Shapes.{BareQuantities}
+use Rattle.market.specs.Shapes.{BareFigures}
+use Rattle.market.specs.Shapes.{BarePrices}
 use Rattle.terms.specs.Services.{of, all_services}
 use Rattle.terms.proofs.Services.{all_services_of}
 use Rattle.market.specs.Limits.{figures_within, figure_within, quantities_within, prices_within, service_prices_within}

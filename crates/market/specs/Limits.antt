@@ -1,10 +1,10 @@
 use Rattle.std.specs.Prelude.{ℕ, Bool, ◌&&◌, Ok, Result, nat_le}
 use Rattle.terms.specs.declared.refusal.Refusal.{Refusal}
-use Rattle.market.specs.declared.quantities.BareQuantities.{BareQuantities}
-use Rattle.market.specs.declared.figures.BareFigures.{BareFigures}
-use Rattle.market.specs.declared.prices.BareServicePrices.{BareServicePrices}
-use Rattle.market.specs.declared.prices.BareIntervalPrices.{BareIntervalPrices}
-use Rattle.market.specs.declared.prices.BarePrices.{BarePrices}
+use Rattle.market.specs.Shapes.{BareQuantities}
+use Rattle.market.specs.Shapes.{BareFigures}
+use Rattle.market.specs.Shapes.{BareServicePrices}
+use Rattle.market.specs.Shapes.{BareIntervalPrices}
+use Rattle.market.specs.Shapes.{BarePrices}
 use Rattle.market.specs.declared.qse.QseRow.{QseRow}
 use Rattle.market.specs.declared.resource.ResourceRow.{ResourceRow}
 use Rattle.market.specs.Answers.{if_numbered, if_within}

@@ -8,30 +8,27 @@ use crate::units::Tenths;
 use terms::refusal::Refusal;
 use terms::service::ByService;
 
-// The figures as they are given.
+// Tenths of a MW within their limits, unless another type is named.
 #[derive(Clone, Copy)]
-pub struct BareFigures {
+pub struct Figures<T = Tenths<3_000>> {
     // telemetered responsibility for each service
-    pub telemetered: ByService<u32>,
+    pub telemetered: ByService<T>,
     // net power consumption
-    pub npf: u32,
+    pub npf: T,
     // low power consumption
-    pub lpc: u32,
+    pub lpc: T,
 }
 
-// The figures within their limits.
-#[derive(Clone, Copy)]
-pub struct Figures {
-    pub telemetered: ByService<Tenths<3_000>>,
-    pub npf: Tenths<3_000>,
-    pub lpc: Tenths<3_000>,
-}
+// The figures as they are given.
+pub type BareFigures = Figures<u32>;
 
-impl Figures {
-    // These figures, each at most 3,000 tenths of a MW.
-    pub fn check(bare: &BareFigures) -> Result<Figures, Refusal>
-        ensures answer { plainly bare_figures result ≡ if_within (figures_within bare.now) bare.now }
-    {
+// These figures, each at most 3,000 tenths of a MW.
+impl TryFrom<&BareFigures> for Figures {
+    type Error = Refusal;
+
+    ghost try_from_gives = { λ bare answer. plainly bare_figures answer ≡ if_within (figures_within bare.now) bare.now };
+
+    fn try_from(bare: &BareFigures) -> Result<Figures, Refusal> {
         const MOST: u32 = 3_000;
         let told = bare.telemetered;
         if told.up > MOST

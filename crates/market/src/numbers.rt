@@ -13,11 +13,13 @@ fn is_lawful(value: u32) -> bool
     1 <= value && value <= 999_999
 }
 
-impl QseNumber {
-    // This number, where it may stand for a QSE.
-    pub fn check(value: u32) -> Result<QseNumber, Refusal>
-        ensures answer { plainly (λ n. n.value) result ≡ number_of value }
-    {
+// This number, where it may stand for a QSE.
+impl TryFrom<u32> for QseNumber {
+    type Error = Refusal;
+
+    ghost try_from_gives = { λ value answer. plainly (λ n. n.value) answer ≡ number_of value };
+
+    fn try_from(value: u32) -> Result<QseNumber, Refusal> {
         if is_lawful(value) {
             Ok(QseNumber { value })
         } else {
@@ -26,11 +28,13 @@ impl QseNumber {
     }
 }
 
-impl ResourceNumber {
-    // This number, where it may stand for a resource.
-    pub fn check(value: u32) -> Result<ResourceNumber, Refusal>
-        ensures answer { plainly (λ n. n.value) result ≡ number_of value }
-    {
+// This number, where it may stand for a resource.
+impl TryFrom<u32> for ResourceNumber {
+    type Error = Refusal;
+
+    ghost try_from_gives = { λ value answer. plainly (λ n. n.value) answer ≡ number_of value };
+
+    fn try_from(value: u32) -> Result<ResourceNumber, Refusal> {
         if is_lawful(value) {
             Ok(ResourceNumber { value })
         } else {

@@ -9,57 +9,46 @@ use terms::interval::ByInterval;
 use terms::refusal::Refusal;
 use terms::service::ByService;
 
-// The prices of a service as they are given.
+// The prices of a service: cents per MW within their limits, unless another type is named.
 #[derive(Clone, Copy)]
-pub struct BareServicePrices {
-    pub dam: u32,
-    pub sasm: u32,
-    pub rsasm: u32,
+pub struct ServicePrices<T = CentsPerMw<1_000_000>> {
+    pub dam: T,
+    pub sasm: T,
+    pub rsasm: T,
 }
+
+// The prices of an interval: cents per MWh within their limits, unless another type is named.
+#[derive(Clone, Copy)]
+pub struct IntervalPrices<T = CentsPerMwh<500_000>> {
+    // Real-Time Reserve Price for On-Line Reserves
+    pub rtrsvpor: T,
+    // Real-Time On-Line Reliability Deployment Price
+    pub rtrdp: T,
+}
+
+// All prices of the hour.
+#[derive(Clone, Copy)]
+pub struct Prices<S = ServicePrices, I = IntervalPrices> {
+    pub services: ByService<S>,
+    pub intervals: ByInterval<I>,
+}
+
+// The prices of a service as they are given.
+pub type BareServicePrices = ServicePrices<u32>;
 
 // The prices of an interval as they are given.
-#[derive(Clone, Copy)]
-pub struct BareIntervalPrices {
-    // Real-Time Reserve Price for On-Line Reserves
-    pub rtrsvpor: u32,
-    // Real-Time On-Line Reliability Deployment Price
-    pub rtrdp: u32,
-}
+pub type BareIntervalPrices = IntervalPrices<u32>;
 
 // All prices of the hour as they are given.
-#[derive(Clone, Copy)]
-pub struct BarePrices {
-    pub services: ByService<BareServicePrices>,
-    pub intervals: ByInterval<BareIntervalPrices>,
-}
+pub type BarePrices = Prices<BareServicePrices, BareIntervalPrices>;
 
-// The prices of a service within their limits.
-#[derive(Clone, Copy)]
-pub struct ServicePrices {
-    pub dam: CentsPerMw<1_000_000>,
-    pub sasm: CentsPerMw<1_000_000>,
-    pub rsasm: CentsPerMw<1_000_000>,
-}
+// These prices, each at most 1,000,000 cents per MW.
+impl TryFrom<&BareServicePrices> for ServicePrices {
+    type Error = Refusal;
 
-// The prices of an interval within their limits.
-#[derive(Clone, Copy)]
-pub struct IntervalPrices {
-    pub rtrsvpor: CentsPerMwh<500_000>,
-    pub rtrdp: CentsPerMwh<500_000>,
-}
+    ghost try_from_gives = { λ bare answer. plainly bare_service_prices answer ≡ if_within (service_prices_within bare.now) bare.now };
 
-// All prices of the hour within their limits.
-#[derive(Clone, Copy)]
-pub struct Prices {
-    pub services: ByService<ServicePrices>,
-    pub intervals: ByInterval<IntervalPrices>,
-}
-
-impl ServicePrices {
-    // These prices, each at most 1,000,000 cents per MW.
-    pub fn check(bare: &BareServicePrices) -> Result<ServicePrices, Refusal>
-        ensures answer { plainly bare_service_prices result ≡ if_within (service_prices_within bare.now) bare.now }
-    {
+    fn try_from(bare: &BareServicePrices) -> Result<ServicePrices, Refusal> {
         const MOST: u32 = 1_000_000;
         if bare.dam > MOST || bare.sasm > MOST || bare.rsasm > MOST {
             return Err(Refusal::FigureOutOfRange);
@@ -72,11 +61,13 @@ impl ServicePrices {
     }
 }
 
-impl IntervalPrices {
-    // These prices, each at most 500,000 cents per MWh.
-    pub fn check(bare: &BareIntervalPrices) -> Result<IntervalPrices, Refusal>
-        ensures answer { plainly bare_interval_prices result ≡ if_within (interval_prices_within bare.now) bare.now }
-    {
+// These prices, each at most 500,000 cents per MWh.
+impl TryFrom<&BareIntervalPrices> for IntervalPrices {
+    type Error = Refusal;
+
+    ghost try_from_gives = { λ bare answer. plainly bare_interval_prices answer ≡ if_within (interval_prices_within bare.now) bare.now };
+
+    fn try_from(bare: &BareIntervalPrices) -> Result<IntervalPrices, Refusal> {
         const MOST: u32 = 500_000;
         if bare.rtrsvpor > MOST || bare.rtrdp > MOST {
             return Err(Refusal::FigureOutOfRange);
@@ -106,19 +97,8 @@ impl Prices {
             rtrdp: CentsPerMwh { value: 0 },
         };
         Prices {
-            services: ByService {
-                up: service,
-                down: service,
-                responsive: service,
-                nonspin: service,
-                ecrs: service,
-            },
-            intervals: ByInterval {
-                first: interval,
-                second: interval,
-                third: interval,
-                fourth: interval,
-            },
+            services: ByService::always(service),
+            intervals: ByInterval::always(interval),
         }
     }
 }

@@ -26,20 +26,22 @@ pub struct Qse {
     pub quantities: ByService<Quantities>,
 }
 
-impl Qse {
-    // The QSE of this row: its number is looked at first, then its load and quantities.
-    pub fn check(row: &QseRow) -> Result<Qse, Refusal>
-        ensures answer { plainly qse_row result ≡ qse_of row.now }
-    {
-        let number = QseNumber::check(row.number)?;
+// The QSE of this row: its number is looked at first, then its load and quantities.
+impl TryFrom<&QseRow> for Qse {
+    type Error = Refusal;
+
+    ghost try_from_gives = { λ row answer. plainly qse_row answer ≡ qse_of row.now };
+
+    fn try_from(row: &QseRow) -> Result<Qse, Refusal> {
+        let number = QseNumber::try_from(row.number)?;
         if row.load > 20_000 {
             return Err(Refusal::FigureOutOfRange);
         }
-        let up = Quantities::check(&row.quantities.up)?;
-        let down = Quantities::check(&row.quantities.down)?;
-        let responsive = Quantities::check(&row.quantities.responsive)?;
-        let nonspin = Quantities::check(&row.quantities.nonspin)?;
-        let ecrs = Quantities::check(&row.quantities.ecrs)?;
+        let up = Quantities::try_from(&row.quantities.up)?;
+        let down = Quantities::try_from(&row.quantities.down)?;
+        let responsive = Quantities::try_from(&row.quantities.responsive)?;
+        let nonspin = Quantities::try_from(&row.quantities.nonspin)?;
+        let ecrs = Quantities::try_from(&row.quantities.ecrs)?;
         Ok(Qse {
             number,
             load: Mwh { value: row.load },

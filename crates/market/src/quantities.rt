@@ -7,51 +7,41 @@ ghost use Rattle.market.specs.Limits.{quantities_within};
 use crate::units::Tenths;
 use terms::refusal::Refusal;
 
-// The ten as bare figures, in the order in which they are given.
+// The ten in the order in which they are given: tenths of a MW within their limits, unless another type is named.
 #[derive(Clone, Copy)]
-pub struct BareQuantities {
+pub struct Quantities<T = Tenths<20_000>> {
     // self-arranged in the Day-Ahead
-    pub dasa: u32,
+    pub dasa: T,
     // self-arranged in SASMs
-    pub rtsa: u32,
+    pub rtsa: T,
     // trade sales
-    pub trs: u32,
+    pub trs: T,
     // procured in SASMs and RSASMs
-    pub rtpc: u32,
+    pub rtpc: T,
     // procured in the DAM
-    pub pc: u32,
+    pub pc: T,
     // RUC-committed
-    pub ruc: u32,
+    pub ruc: T,
     // trade purchases
-    pub trp: u32,
+    pub trp: T,
     // failed
-    pub fq: u32,
+    pub fq: T,
     // reconfiguration reductions
-    pub rfq: u32,
+    pub rfq: T,
     // infeasible
-    pub inf: u32,
+    pub inf: T,
 }
 
-// The ten within their limits.
-#[derive(Clone, Copy)]
-pub struct Quantities {
-    pub dasa: Tenths<20_000>,
-    pub rtsa: Tenths<20_000>,
-    pub trs: Tenths<20_000>,
-    pub rtpc: Tenths<20_000>,
-    pub pc: Tenths<20_000>,
-    pub ruc: Tenths<20_000>,
-    pub trp: Tenths<20_000>,
-    pub fq: Tenths<20_000>,
-    pub rfq: Tenths<20_000>,
-    pub inf: Tenths<20_000>,
-}
+// The ten as they are given.
+pub type BareQuantities = Quantities<u32>;
 
-impl Quantities {
-    // The ten of these figures, each at most 20,000.
-    pub fn check(bare: &BareQuantities) -> Result<Quantities, Refusal>
-        ensures answer { plainly bare_quantities result ≡ if_within (quantities_within bare.now) bare.now }
-    {
+// The ten of these figures, each at most 20,000.
+impl TryFrom<&BareQuantities> for Quantities {
+    type Error = Refusal;
+
+    ghost try_from_gives = { λ bare answer. plainly bare_quantities answer ≡ if_within (quantities_within bare.now) bare.now };
+
+    fn try_from(bare: &BareQuantities) -> Result<Quantities, Refusal> {
         const MOST: u32 = 20_000;
         if bare.dasa > MOST
             || bare.rtsa > MOST

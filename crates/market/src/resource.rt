@@ -39,13 +39,7 @@ impl ResourceRow {
             qse: 0,
             class: Class::Generation,
             figures: BareFigures {
-                telemetered: ByService {
-                    up: 0,
-                    down: 0,
-                    responsive: 0,
-                    nonspin: 0,
-                    ecrs: 0,
-                },
+                telemetered: ByService::always(0),
                 npf: 0,
                 lpc: 0,
             },
@@ -64,14 +58,16 @@ impl Numbered for ResourceRow {
     }
 }
 
-impl Resource {
-    // The resource of this row: both numbers are looked at first, then its figures.
-    pub fn check(row: &ResourceRow) -> Result<Resource, Refusal>
-        ensures answer { plainly resource_row result ≡ resource_of row.now }
-    {
-        let number = ResourceNumber::check(row.number)?;
-        let qse = QseNumber::check(row.qse)?;
-        let figures = Figures::check(&row.figures)?;
+// The resource of this row: both numbers are looked at first, then its figures.
+impl TryFrom<&ResourceRow> for Resource {
+    type Error = Refusal;
+
+    ghost try_from_gives = { λ row answer. plainly resource_row answer ≡ resource_of row.now };
+
+    fn try_from(row: &ResourceRow) -> Result<Resource, Refusal> {
+        let number = ResourceNumber::try_from(row.number)?;
+        let qse = QseNumber::try_from(row.qse)?;
+        let figures = Figures::try_from(&row.figures)?;
         Ok(Resource {
             number,
             qse,

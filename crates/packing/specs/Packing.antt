@@ -1,9 +1,9 @@
 -- Which words a group makes, and how the feed reads them.
 use Rattle.std.specs.Prelude.{◌≡◌, ℕ, ◌+◌, ◌*◌, List, [], ◌∷◌, ◌++◌, length, Ok}
-use Rattle.market.specs.declared.figures.BareFigures.{BareFigures}
-use Rattle.market.specs.declared.prices.BareIntervalPrices.{BareIntervalPrices}
-use Rattle.market.specs.declared.prices.BareServicePrices.{BareServicePrices}
-use Rattle.market.specs.declared.quantities.BareQuantities.{BareQuantities}
+use Rattle.market.specs.Shapes.{BareFigures}
+use Rattle.market.specs.Shapes.{BareIntervalPrices}
+use Rattle.market.specs.Shapes.{BareServicePrices}
+use Rattle.market.specs.Shapes.{BareQuantities}
 use Rattle.terms.specs.Services.{service_number, each}
 use Rattle.history.specs.Calls.{Call, enrol, quantities, enter, strike, prices, interval, draft, issue, drop}
 use Rattle.feed.specs.Words.{kind_of}

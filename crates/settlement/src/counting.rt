@@ -22,7 +22,7 @@ fn counted_of<E: Edition>(
 ) -> SignedTenths<3_000>
     ensures answer { figures_within resource.now.figures ≡ true → result.value ≡ (E.Edition.meaning edition.now).counted service resource.now.class resource.now.figures }
 {
-    match Figures::check(&resource.figures) {
+    match Figures::try_from(&resource.figures) {
         Ok(figures) => edition.counted(service, resource.class, &figures),
         Err(_) => SignedTenths { value: 0 },
     }

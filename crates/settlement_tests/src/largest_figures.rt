@@ -16,12 +16,12 @@ use terms::service::Service;
 
 // A tenth failed is then 4,000,000 / 40 = 100,000 cents, by MCPC and intervals alike, and one reduced 1,000,000 / 10.
 fn greatest_prices() -> Result<Prices, Refusal> {
-    let capacity = ServicePrices::check(&BareServicePrices {
+    let capacity = ServicePrices::try_from(&BareServicePrices {
         dam: 1_000_000,
         sasm: 1_000_000,
         rsasm: 1_000_000,
     })?;
-    let real_time = IntervalPrices::check(&BareIntervalPrices {
+    let real_time = IntervalPrices::try_from(&BareIntervalPrices {
         rtrsvpor: 500_000,
         rtrdp: 500_000,
     })?;
@@ -117,7 +117,7 @@ const CHARGED: [Charged; 6] = [
 ];
 
 fn quantities(charged: &Charged) -> Result<Quantities, Refusal> {
-    Quantities::check(&BareQuantities {
+    Quantities::try_from(&BareQuantities {
         dasa: charged.supplied,
         rtsa: charged.supplied,
         trs: charged.supplied,
@@ -181,7 +181,7 @@ fn counted_by_256(rules: Rules, service: Service, class: Class, figures: &Figure
 #[test]
 fn counted_sums(rt: HostRuntime) -> Result<(), Fail> {
     for (service, told, npf, lpc, tenths) in COUNTED {
-        let figures = Figures::check(&BareFigures {
+        let figures = Figures::try_from(&BareFigures {
             telemetered: every_service(told),
             npf,
             lpc,

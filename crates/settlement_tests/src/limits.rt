@@ -25,23 +25,23 @@ const NUMBERED: [(u32, Result<u32, u8>); 5] = [
 ];
 
 fn qse_number(number: u32) -> Result<u32, u8> {
-    match QseNumber::check(number) {
+    match QseNumber::try_from(number) {
         Ok(taken) => Ok(taken.value),
-        Err(refusal) => Err(refusal.number()),
+        Err(refusal) => Err(u8::from(refusal)),
     }
 }
 
 fn resource_number(number: u32) -> Result<u32, u8> {
-    match ResourceNumber::check(number) {
+    match ResourceNumber::try_from(number) {
         Ok(taken) => Ok(taken.value),
-        Err(refusal) => Err(refusal.number()),
+        Err(refusal) => Err(u8::from(refusal)),
     }
 }
 
 #[test]
 fn numbers(rt: HostRuntime) {
-    assert_eq!(rt; Refusal::NumberOutOfRange.number(), BAD_NUMBER);
-    assert_eq!(rt; Refusal::FigureOutOfRange.number(), BAD_FIGURE);
+    assert_eq!(rt; u8::from(Refusal::NumberOutOfRange), BAD_NUMBER);
+    assert_eq!(rt; u8::from(Refusal::FigureOutOfRange), BAD_FIGURE);
     for (number, answer) in NUMBERED {
         assert_eq!(rt; qse_number(number), answer, "QSE {number}");
         assert_eq!(rt; resource_number(number), answer, "resource {number}");
@@ -88,9 +88,9 @@ const CODED: [(
 #[test]
 fn services_classes_and_intervals(rt: HostRuntime) {
     for (number, service, class, interval) in CODED {
-        assert_eq!(rt; Service::check(number), service);
-        assert_eq!(rt; Class::check(number), class);
-        assert_eq!(rt; Interval::check(number), interval);
+        assert_eq!(rt; Service::try_from(number), service);
+        assert_eq!(rt; Class::try_from(number), class);
+        assert_eq!(rt; Interval::try_from(number), interval);
     }
 }
 
@@ -141,9 +141,9 @@ fn one_quantity(place: Quantity, tenths: u32) -> BareQuantities {
 
 // What the check keeps in the place where it was given.
 fn quantity_taken(place: Quantity, tenths: u32) -> Result<u32, u8> {
-    let taken = match Quantities::check(&one_quantity(place, tenths)) {
+    let taken = match Quantities::try_from(&one_quantity(place, tenths)) {
         Ok(taken) => taken,
-        Err(refusal) => return Err(refusal.number()),
+        Err(refusal) => return Err(u8::from(refusal)),
     };
     Ok(match place {
         Quantity::Dasa => taken.dasa.value,
@@ -200,9 +200,9 @@ fn one_figure(place: Figure, tenths: u32) -> BareFigures {
 }
 
 fn figure_taken(place: Figure, tenths: u32) -> Result<u32, u8> {
-    let taken = match Figures::check(&one_figure(place, tenths)) {
+    let taken = match Figures::try_from(&one_figure(place, tenths)) {
         Ok(taken) => taken,
-        Err(refusal) => return Err(refusal.number()),
+        Err(refusal) => return Err(u8::from(refusal)),
     };
     Ok(match place {
         Figure::Telemetered(service) => taken.telemetered.of(service).value,
@@ -235,16 +235,16 @@ const REAL_TIME: [(u32, u32, bool); 3] = [
 ];
 
 fn capacity_taken(dam: u32, sasm: u32, rsasm: u32) -> Result<[u32; 3], u8> {
-    match ServicePrices::check(&BareServicePrices { dam, sasm, rsasm }) {
+    match ServicePrices::try_from(&BareServicePrices { dam, sasm, rsasm }) {
         Ok(taken) => Ok([taken.dam.value, taken.sasm.value, taken.rsasm.value]),
-        Err(refusal) => Err(refusal.number()),
+        Err(refusal) => Err(u8::from(refusal)),
     }
 }
 
 fn real_time_taken(rtrsvpor: u32, rtrdp: u32) -> Result<[u32; 2], u8> {
-    match IntervalPrices::check(&BareIntervalPrices { rtrsvpor, rtrdp }) {
+    match IntervalPrices::try_from(&BareIntervalPrices { rtrsvpor, rtrdp }) {
         Ok(taken) => Ok([taken.rtrsvpor.value, taken.rtrdp.value]),
-        Err(refusal) => Err(refusal.number()),
+        Err(refusal) => Err(u8::from(refusal)),
     }
 }
 
@@ -282,9 +282,9 @@ const ENROLLED: [(u32, u32, u32, u8); 8] = [
 ];
 
 fn qse_refusal(row: &QseRow) -> u8 {
-    match Qse::check(row) {
+    match Qse::try_from(row) {
         Ok(_) => 0,
-        Err(refusal) => refusal.number(),
+        Err(refusal) => u8::from(refusal),
     }
 }
 
@@ -319,9 +319,9 @@ const LISTED: [(u32, u32, u32, u8); 9] = [
 ];
 
 fn resource_refusal(row: &ResourceRow) -> u8 {
-    match Resource::check(row) {
+    match Resource::try_from(row) {
         Ok(_) => 0,
-        Err(refusal) => refusal.number(),
+        Err(refusal) => u8::from(refusal),
     }
 }
 

@@ -94,10 +94,10 @@ fn prices(charged: &Charged, service: Service, interval: Interval) -> Result<Pri
     let mut prices = Prices::none();
     prices
         .services
-        .set(service, ServicePrices::check(&charged.capacity)?);
+        .set(service, ServicePrices::try_from(&charged.capacity)?);
     prices
         .intervals
-        .set(interval, IntervalPrices::check(&charged.real_time)?);
+        .set(interval, IntervalPrices::try_from(&charged.real_time)?);
     Ok(prices)
 }
 
@@ -106,7 +106,7 @@ fn prices(charged: &Charged, service: Service, interval: Interval) -> Result<Pri
 fn charges(rt: HostRuntime) -> Result<(), Fail> {
     for charged in CHARGED {
         let rules = charged.rules;
-        let quantities = Quantities::check(&charged.quantities)?;
+        let quantities = Quantities::try_from(&charged.quantities)?;
         let counted = counted_sum(charged.counted)?;
         for service in SERVICES {
             for interval in INTERVALS {
@@ -162,7 +162,7 @@ fn counted_of_a_resource(rt: HostRuntime) -> Result<(), Fail> {
     for counted in COUNTED {
         let mut telemetered = every_service(0);
         telemetered.set(counted.service, counted.telemetered);
-        let figures = Figures::check(&BareFigures {
+        let figures = Figures::try_from(&BareFigures {
             telemetered,
             npf: counted.npf,
             lpc: counted.lpc,

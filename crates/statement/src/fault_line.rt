@@ -16,9 +16,9 @@ fn put_fault(out: &mut [u8], at: usize, fault: &Fault) -> usize
     ensures end { result ≤ at + 69 }
 {
     let number = put_bytes(out, at, b"fault ");
-    let first = put_decimal(out, number, fault.refusal.number() as u64);
+    let first = put_decimal(out, number, u8::from(fault.refusal) as u64);
     let layer = put_bytes(out, first, b" ");
-    let second = put_decimal(out, layer, fault.layer.number() as u64);
+    let second = put_decimal(out, layer, u8::from(fault.layer) as u64);
     let index = put_bytes(out, second, b" ");
     let ended = put_decimal(out, index, fault.index as u64);
     put_bytes(out, ended, b"\n")

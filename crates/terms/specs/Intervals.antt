@@ -16,6 +16,10 @@ interval_number Second = 1
 interval_number Third = 2
 interval_number Fourth = 3
 
+-- the same for every interval
+abbrev pub every_interval : {A : Type 0} → A → ByInterval A
+every_interval a = record { first = a; second = a; third = a; fourth = a }
+
 -- what an interval has
 abbrev pub of_interval : {A : Type 0} → Interval → ByInterval A → A
 of_interval First x = x.first

@@ -29,6 +29,10 @@ letter_of Ecrs = 69
 abbrev pub service_of_letter : ℕ → Result Service Refusal
 service_of_letter c = cond (c == 85) (Ok RegUp) (cond (c == 68) (Ok RegDown) (cond (c == 82) (Ok Responsive) (cond (c == 78) (Ok NonSpin) (cond (c == 69) (Ok Ecrs) (Err FigureOutOfRange)))))
 
+-- the same for every service
+abbrev pub always : {A : Type 0} → A → ByService A
+always a = record { up = a; down = a; responsive = a; nonspin = a; ecrs = a }
+
 -- what a service has
 abbrev pub of : {A : Type 0} → Service → ByService A → A
 of RegUp x = x.up

@@ -11,11 +11,13 @@ pub enum Class {
     OtherLoad,
 }
 
-impl Class {
-    // The class of a number from 0 to 2.
-    pub fn check(number: u32) -> Result<Class, Refusal>
-        ensures answer { result ≡ class_of number }
-    {
+// The class of a number from 0 to 2.
+impl TryFrom<u32> for Class {
+    type Error = Refusal;
+
+    ghost try_from_gives = { λ number answer. answer ≡ class_of number };
+
+    fn try_from(number: u32) -> Result<Class, Refusal> {
         match number {
             0 => Ok(Class::Generation),
             1 => Ok(Class::ControllableLoad),

@@ -7,21 +7,17 @@ use crate::refusal::Refusal;
 // What turned the feed down: its words, its groups, or the book.
 #[derive(Clone, Copy, PartialEq, Eq, Debug)]
 pub enum Layer {
-    Words,
-    Groups,
-    Book,
+    Words = 1,
+    Groups = 2,
+    Book = 3,
 }
 
-impl Layer {
-    // The number that stands for this layer outside the program.
-    pub fn number(self) -> u8
-        ensures answer { result ≡ layer_number self }
-    {
-        match self {
-            Layer::Words => 1,
-            Layer::Groups => 2,
-            Layer::Book => 3,
-        }
+// The number that stands for a layer outside the program.
+impl From<Layer> for u8 {
+    ghost from_gives = { λ layer number. number ≡ layer_number layer };
+
+    fn from(layer: Layer) -> u8 {
+        layer as u8
     }
 }
 

@@ -1,6 +1,6 @@
 // The four 15-minute intervals of the hour, and one of T for each of them.
 ghost use Rattle.std.specs.Prelude.{◌≡◌};
-ghost use Rattle.terms.specs.Intervals.{interval_of, with_interval};
+ghost use Rattle.terms.specs.Intervals.{interval_of, every_interval, with_interval};
 
 use crate::refusal::Refusal;
 
@@ -20,11 +20,13 @@ pub struct ByInterval<T> {
     pub fourth: T,
 }
 
-impl Interval {
-    // The interval of a number from 0 to 3.
-    pub fn check(number: u32) -> Result<Interval, Refusal>
-        ensures answer { result ≡ interval_of number }
-    {
+// The interval of a number from 0 to 3.
+impl TryFrom<u32> for Interval {
+    type Error = Refusal;
+
+    ghost try_from_gives = { λ number answer. answer ≡ interval_of number };
+
+    fn try_from(number: u32) -> Result<Interval, Refusal> {
         match number {
             0 => Ok(Interval::First),
             1 => Ok(Interval::Second),
@@ -36,6 +38,18 @@ impl Interval {
 }
 
 impl<T: Copy> ByInterval<T> {
+    // The same for every interval.
+    pub fn always(value: T) -> ByInterval<T>
+        ensures answer { result ≡ every_interval value }
+    {
+        ByInterval {
+            first: value,
+            second: value,
+            third: value,
+            fourth: value,
+        }
+    }
+
     // Gives this interval another value; the three others keep theirs.
     pub fn set(&mut self, interval: Interval, value: T)
         ensures after { self.new ≡ with_interval interval value self.old }

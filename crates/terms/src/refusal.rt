@@ -1,56 +1,42 @@
-// Why a call was refused.
+// Why a call was refused, each with the number that stands for it outside the program.
 ghost use Rattle.std.specs.Prelude.{◌≡◌};
 ghost use Rattle.terms.specs.Refusals.{refusal_number};
 
 #[derive(Clone, Copy, PartialEq, Eq, Debug)]
 pub enum Refusal {
     // a draft is open, so the rows rest
-    DraftOpen,
+    DraftOpen = 1,
     // a QSE or resource number outside 1 to 999,999
-    NumberOutOfRange,
+    NumberOutOfRange = 2,
     // a load, quantity, class, figure, price, service, interval or letter outside its values
-    FigureOutOfRange,
+    FigureOutOfRange = 3,
     // the QSE is not enrolled
-    NotEnrolled,
+    NotEnrolled = 4,
     // no resource has this number
-    NoSuchResource,
+    NoSuchResource = 5,
     // a new row, and every usable slot is taken
-    NoFreeSlot,
+    NoFreeSlot = 6,
     // the draft carries another book's number
-    OtherBook,
+    OtherBook = 7,
     // no draft is open
-    NoDraft,
+    NoDraft = 8,
     // a head word of an unknown kind
-    UnknownHead,
+    UnknownHead = 9,
     // fewer words remain than the group needs
-    GroupCutShort,
+    GroupCutShort = 10,
     // a data word of another kind
-    NotData,
+    NotData = 11,
     // nothing was issued yet
-    NothingIssued,
+    NothingIssued = 12,
     // the output is shorter than the text
-    OutputTooShort,
+    OutputTooShort = 13,
 }
 
-impl Refusal {
-    // The number that stands for this refusal outside the program.
-    pub fn number(self) -> u8
-        ensures answer { result ≡ refusal_number self }
-    {
-        match self {
-            Refusal::DraftOpen => 1,
-            Refusal::NumberOutOfRange => 2,
-            Refusal::FigureOutOfRange => 3,
-            Refusal::NotEnrolled => 4,
-            Refusal::NoSuchResource => 5,
-            Refusal::NoFreeSlot => 6,
-            Refusal::OtherBook => 7,
-            Refusal::NoDraft => 8,
-            Refusal::UnknownHead => 9,
-            Refusal::GroupCutShort => 10,
-            Refusal::NotData => 11,
-            Refusal::NothingIssued => 12,
-            Refusal::OutputTooShort => 13,
-        }
+// The number that stands for a refusal outside the program.
+impl From<Refusal> for u8 {
+    ghost from_gives = { λ refusal number. number ≡ refusal_number refusal };
+
+    fn from(refusal: Refusal) -> u8 {
+        refusal as u8
     }
 }

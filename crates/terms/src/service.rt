@@ -1,6 +1,6 @@
 // The five Ancillary Services, and a figure for each of them.
 ghost use Rattle.std.specs.Prelude.{◌≡◌};
-ghost use Rattle.terms.specs.Services.{service_of, letter_of, of, with_service};
+ghost use Rattle.terms.specs.Services.{service_of, letter_of, service_of_letter, always, of, with_service};
 
 use crate::refusal::Refusal;
 
@@ -23,11 +23,13 @@ pub struct ByService<T> {
     pub ecrs: T,
 }
 
-impl Service {
-    // The service of a number from 0 to 4.
-    pub fn check(number: u32) -> Result<Service, Refusal>
-        ensures answer { result ≡ service_of number }
-    {
+// The service of a number from 0 to 4.
+impl TryFrom<u32> for Service {
+    type Error = Refusal;
+
+    ghost try_from_gives = { λ number answer. answer ≡ service_of number };
+
+    fn try_from(number: u32) -> Result<Service, Refusal> {
         match number {
             0 => Ok(Service::RegUp),
             1 => Ok(Service::RegDown),
@@ -37,12 +39,32 @@ impl Service {
             _ => Err(Refusal::FigureOutOfRange),
         }
     }
+}
 
-    // The letter that stands for this service on a statement.
-    pub fn letter(self) -> char
-        ensures answer { result ≡ letter_of self }
-    {
-        match self {
+// The service of the letter that stands for it on a statement.
+impl TryFrom<char> for Service {
+    type Error = Refusal;
+
+    ghost try_from_gives = { λ letter answer. answer ≡ service_of_letter letter };
+
+    fn try_from(letter: char) -> Result<Service, Refusal> {
+        match letter {
+            'U' => Ok(Service::RegUp),
+            'D' => Ok(Service::RegDown),
+            'R' => Ok(Service::Responsive),
+            'N' => Ok(Service::NonSpin),
+            'E' => Ok(Service::Ecrs),
+            _ => Err(Refusal::FigureOutOfRange),
+        }
+    }
+}
+
+// The letter that stands for a service on a statement.
+impl From<Service> for char {
+    ghost from_gives = { λ service letter. letter ≡ letter_of service };
+
+    fn from(service: Service) -> char {
+        match service {
             Service::RegUp => 'U',
             Service::RegDown => 'D',
             Service::Responsive => 'R',
@@ -53,6 +75,19 @@ impl Service {
 }
 
 impl<T: Copy> ByService<T> {
+    // The same for every service.
+    pub fn always(value: T) -> ByService<T>
+        ensures answer { result ≡ always value }
+    {
+        ByService {
+            up: value,
+            down: value,
+            responsive: value,
+            nonspin: value,
+            ecrs: value,
+        }
+    }
+
     // What this service has.
     pub fn of(&self, service: Service) -> T
         ensures answer { result ≡ of service self.now }

@@ -4,12 +4,12 @@ use Rattle.terms.specs.declared.service.Service.TheVariants.{RegUp, RegDown, Res
 use Rattle.terms.specs.declared.class.Class.{Class}
 use Rattle.terms.specs.declared.class.Class.TheVariants.{ControllableLoad, OtherLoad}
 use Rattle.terms.specs.declared.interval.Interval.TheVariants.{First}
-use Rattle.market.specs.declared.figures.BareFigures.{BareFigures}
-use Rattle.market.specs.declared.quantities.BareQuantities.{BareQuantities}
-use Rattle.market.specs.declared.prices.BarePrices.{BarePrices}
-use Rattle.terms.specs.Services.{with_service}
+use Rattle.market.specs.Shapes.{BareFigures}
+use Rattle.market.specs.Shapes.{BareQuantities}
+use Rattle.market.specs.Shapes.{BarePrices}
+use Rattle.terms.specs.Services.{always, with_service}
 use Rattle.terms.specs.Intervals.{with_interval}
-use Rattle.market.specs.Bare.{always, no_prices}
+use Rattle.market.specs.Bare.{no_prices}
 use Rattle.editions.specs.Meaning.{Meaning}
 use Rattle.editions.specs.Meanings.{before_nprr1149, nprr1149, nprr1196}
 use Rattle.apportion.specs.Shares.{shares}

@@ -1,7 +1,7 @@
 use Rattle.std.proofs.Common.{◌≡◌, refl, ap, ◌∙◌}
 use Rattle.std.proofs.lemmas.Result.{err_from_is_err_and}
 use Rattle.terms.specs.declared.interval.ByInterval.{ByInterval}
-use Rattle.market.specs.declared.prices.BareIntervalPrices.{BareIntervalPrices}
+use Rattle.market.specs.Shapes.{BareIntervalPrices}
 use Rattle.market.specs.Bare.{bare_interval_prices}
 use Rattle.terms.specs.Intervals.{each_interval, with_interval}
 use Rattle.terms.proofs.Settings.{each_with_interval}

@@ -1,7 +1,7 @@
 use Rattle.std.proofs.Common.{◌≡◌, refl, ap, ◌∙◌}
 use Rattle.std.proofs.lemmas.Result.{err_from_is_err_and}
 use Rattle.terms.specs.declared.service.ByService.{ByService}
-use Rattle.market.specs.declared.prices.BareServicePrices.{BareServicePrices}
+use Rattle.market.specs.Shapes.{BareServicePrices}
 use Rattle.market.specs.Bare.{bare_service_prices}
 use Rattle.terms.specs.Services.{each, with_service}
 use Rattle.terms.proofs.Settings.{each_with}

@@ -3,7 +3,7 @@ use Rattle.std.proofs.lemmas.Result.{err_from_is_err_and}
 use Rattle.terms.specs.declared.refusal.Refusal.TheVariants.{DraftOpen, NumberOutOfRange, FigureOutOfRange, NotEnrolled}
 use Rattle.terms.specs.declared.service.Service.{Service}
 use Rattle.terms.specs.declared.service.ByService.{ByService}
-use Rattle.market.specs.declared.quantities.BareQuantities.{BareQuantities}
+use Rattle.market.specs.Shapes.{BareQuantities}
 use Rattle.market.specs.Limits.{numbered, quantities_within}
 use Rattle.terms.specs.Services.{service_of, with_service}
 use Rattle.table.specs.Rows.{known}

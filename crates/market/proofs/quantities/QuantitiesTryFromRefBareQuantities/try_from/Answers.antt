@@ -1,6 +1,6 @@
 use Rattle.std.proofs.Common.{rules}
 use Rattle.market.specs.Limits.{quantities_within}
-use Rattle.market.proofs.quantities.Quantities.check.Goals as goal
+use Rattle.market.proofs.quantities.QuantitiesTryFromRefBareQuantities.try_from.Goals as goal
 
 pub returns-then-bare-gt-MOST : goal.returns-then-bare-gt-MOST
 unfolding quantities_within

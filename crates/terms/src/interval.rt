@@ -20,6 +20,16 @@ pub struct ByInterval<T> {
     pub fourth: T,
 }
 
+impl Interval {
+    // All four in the order of their numbers.
+    pub const ALL: [Interval; 4] = [
+        Interval::First,
+        Interval::Second,
+        Interval::Third,
+        Interval::Fourth,
+    ];
+}
+
 // The interval of a number from 0 to 3.
 impl TryFrom<u32> for Interval {
     type Error = Refusal;

@@ -23,6 +23,17 @@ pub struct ByService<T> {
     pub ecrs: T,
 }
 
+impl Service {
+    // All five in the order of their numbers.
+    pub const ALL: [Service; 5] = [
+        Service::RegUp,
+        Service::RegDown,
+        Service::Responsive,
+        Service::NonSpin,
+        Service::Ecrs,
+    ];
+}
+
 // The service of a number from 0 to 4.
 impl TryFrom<u32> for Service {
     type Error = Refusal;

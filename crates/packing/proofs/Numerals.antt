@@ -1,14 +1,14 @@
 -- Digits one after the other, and the figure that they write.
-use Rattle.std.proofs.Common.{◌≡◌, ℕ, ◌+◌, ◌<◌, ◌≤◌, Bool, true, false, not, ◌&&◌, eqb, List, length, get_or, drop, Ok, Err, Result, sym, refl, ap, ◌∙◌, ⊎_elim, add-one, arith, drop_of_length-le, drop-cons, le-ltb}
+use Rattle.std.proofs.Common.{◌≡◌, ℕ, ◌+◌, ◌<◌, ◌≤◌, Bool, true, false, not, ◌&&◌, eqb, List, length, get_or, drop, Err, Result, sym, refl, ap, ◌∙◌, ⊎_elim, add-one, arith, drop_of_length-le, drop-cons, le-ltb}
 use Rattle.std.proofs.lemmas.Bool.{cases_lt}
 use borrow.Author.Tests.{eqb-false}
 use Rattle.std.proofs.lemmas.Str.Parse.{IsNumeralModel, numerals_by_value, tells_all_ascii_digits, parse_digits}
-use Rattle.std.proofs.lemmas.Result.{OkIff-at_ok, OkIff-at_err}
+use Rattle.std.proofs.lemmas.Result.{OkIff-at_err}
 use Rattle.std.specs.Str.Parse.{digits_value, ParsesUnsigned}
 use Rattle.std.specs.Char.{is_ascii_digit}
 use Rattle.std.specs.Str.{all_ascii_digits}
 use Rattle.packing.specs.declared.wrong.Wrong.TheVariants.{TooLarge}
-use Rattle.packing.specs.Fields.{is_numeral, figure_within, figure_of}
+use Rattle.packing.specs.Fields.{is_numeral, figure_of}
 
 -- after a digit those ahead decide
 pub on_digit : (s : List ℕ) (i : ℕ) → i < length s → true ≡ is_ascii_digit (get_or s i 0) → all_ascii_digits s ≡ all_ascii_digits (drop i s) → all_ascii_digits s ≡ all_ascii_digits (drop (i + 1) s)
@@ -35,13 +35,6 @@ both false b e = absurd (let z : ◌≡◌ {A = ℕ} 0 1 = cc in omega arith)
 
 own : IsNumeralModel (λ ds. all_ascii_digits ds ≡ true) (digits_value 10)
 own = numerals_by_value _ tells_all_ascii_digits
-
--- digits that a parse takes write the number that it answers
-pub parsed : {E : Type 0} (bs : List ℕ) (r : Result ℕ E) (n : ℕ) → is_numeral bs ≡ true → ParsesUnsigned 32 10 bs r → r ≡ Ok n → figure_within n ≡ figure_of bs
-parsed bs r n d h e =
-    let p = parse_digits own 32 bs r h (both _ _ d).0 in
-    let q = OkIff-at_ok r _ _ n p e in
-    ap figure_within q.1 ∙ sym (rw d)
 
 -- digits that it does not take write a larger number than a figure
 pub unparsed : {E : Type 0} (bs : List ℕ) (r : Result ℕ E) (d : E) → is_numeral bs ≡ true → ParsesUnsigned 32 10 bs r → r ≡ Err d → Err TooLarge ≡ figure_of bs

@@ -1,37 +1,35 @@
 -- Which words a group makes, and how the feed reads them.
 use Rattle.std.specs.Prelude.{◌≡◌, ℕ, ◌+◌, ◌*◌, List, [], ◌∷◌, ◌++◌, length, Ok}
-use Rattle.market.specs.Shapes.{BareFigures}
-use Rattle.market.specs.Shapes.{BareIntervalPrices}
-use Rattle.market.specs.Shapes.{BareServicePrices}
-use Rattle.market.specs.Shapes.{BareQuantities}
+use Rattle.market.specs.Shapes.{BareFigures, BareIntervalPrices, BareServicePrices, BareQuantities}
 use Rattle.terms.specs.Services.{service_number, each}
 use Rattle.history.specs.Calls.{Call, enrol, quantities, enter, strike, prices, interval, draft, issue, drop}
 use Rattle.feed.specs.Words.{kind_of}
 use Rattle.feed.specs.Groups.{needed, group_at}
-use Rattle.packing.specs.declared.group.Capacity.{Capacity}
+use Rattle.market.specs.declared.quantities.Quantities.{Quantities}
+use Rattle.market.specs.declared.figures.Figures.{Figures}
+use Rattle.market.specs.declared.prices.ServicePrices.{ServicePrices}
+use Rattle.market.specs.declared.prices.IntervalPrices.{IntervalPrices}
+use Rattle.packing.specs.declared.figure.Figure.{Figure}
 use Rattle.packing.specs.declared.group.Group.{Group}
-use Rattle.packing.specs.declared.group.Group.TheVariants.{Enrol, Quantities, Resource, Strike, Prices, Interval}
-use Rattle.packing.specs.declared.group.RealTime.{RealTime}
-use Rattle.packing.specs.declared.group.Ten.{Ten}
-use Rattle.packing.specs.declared.group.Told.{Told}
+use Rattle.packing.specs.declared.group.Group.TheVariants.{Enrol, Quantities as TenOf, Resource, Strike, Prices, Interval}
 
 -- a group's parts as the call has them
-abbrev pub bare_ten : Ten → BareQuantities
+abbrev pub bare_ten : Quantities Figure → BareQuantities
 bare_ten q = record { dasa = q.dasa.value; rtsa = q.rtsa.value; trs = q.trs.value; rtpc = q.rtpc.value; pc = q.pc.value; ruc = q.ruc.value; trp = q.trp.value; fq = q.fq.value; rfq = q.rfq.value; inf = q.inf.value }
 
-abbrev pub bare_told : Told → BareFigures
+abbrev pub bare_told : Figures Figure → BareFigures
 bare_told f = record { telemetered = each (λ x. x.value) f.telemetered; npf = f.npf.value; lpc = f.lpc.value }
 
-abbrev pub bare_capacity : Capacity → BareServicePrices
+abbrev pub bare_capacity : ServicePrices Figure → BareServicePrices
 bare_capacity p = record { dam = p.dam.value; sasm = p.sasm.value; rsasm = p.rsasm.value }
 
-abbrev pub bare_real_time : RealTime → BareIntervalPrices
+abbrev pub bare_real_time : IntervalPrices Figure → BareIntervalPrices
 bare_real_time p = record { rtrsvpor = p.rtrsvpor.value; rtrdp = p.rtrdp.value }
 
 -- the call that a group stands for
 abbrev pub call_of_group : Group → Call
 call_of_group (Enrol qse load) = enrol qse.value load.value
-call_of_group (Quantities qse service ten) = quantities qse.value (service_number service) (bare_ten ten)
+call_of_group (TenOf qse service ten) = quantities qse.value (service_number service) (bare_ten ten)
 call_of_group (Resource number qse class told) = enter number.value qse.value class.value (bare_told told)
 call_of_group (Strike number) = strike number.value
 call_of_group (Prices service p) = prices (service_number service) (bare_capacity p)

@@ -4,12 +4,14 @@ ghost use Rattle.packing.specs.Fields.{is_numeral, figure_within, figure_of, ser
 
 use crate::figure::Figure;
 use crate::wrong::Wrong;
+use std::str::FromStr;
 use terms::service::Service;
 
 // Whether a field is written in digits alone.
 fn is_numeral(field: &str) -> bool
     ensures answer { result ≡ is_numeral field.now }
 {
+    // a loop, since the goal that `all` leaves takes more lemmas than this
     for byte in field.as_bytes() {
         if !byte.is_ascii_digit() {
             return false;
@@ -18,11 +20,13 @@ fn is_numeral(field: &str) -> bool
     !field.is_empty()
 }
 
-impl Figure {
-    // This number as a figure, where 28 bits hold it.
-    pub fn check(value: u32) -> Result<Figure, Wrong>
-        ensures answer { valued result ≡ figure_within value }
-    {
+// This number as a figure, where 28 bits hold it.
+impl TryFrom<u32> for Figure {
+    type Error = Wrong;
+
+    ghost try_from_gives = { λ value answer. valued answer ≡ figure_within value };
+
+    fn try_from(value: u32) -> Result<Figure, Wrong> {
         if value < 1 << 28 {
             Ok(Figure { value })
         } else {
@@ -32,15 +36,19 @@ impl Figure {
 }
 
 // The figure that a field writes.
-pub fn figure(field: &str) -> Result<Figure, Wrong>
-    ensures answer { valued result ≡ figure_of field.now }
-{
-    if !is_numeral(field) {
-        return Err(Wrong::NotANumber);
-    }
-    match field.parse::<u32>() {
-        Ok(value) => Figure::check(value),
-        Err(_) => Err(Wrong::TooLarge),
+impl FromStr for Figure {
+    type Err = Wrong;
+
+    ghost from_str_gives = { λ field answer. valued answer ≡ figure_of field };
+
+    fn from_str(field: &str) -> Result<Figure, Wrong> {
+        if !is_numeral(field) {
+            return Err(Wrong::NotANumber);
+        }
+        match field.parse::<u32>() {
+            Ok(value) => Figure::try_from(value),
+            Err(_) => Err(Wrong::TooLarge),
+        }
     }
 }
 
@@ -48,12 +56,8 @@ pub fn figure(field: &str) -> Result<Figure, Wrong>
 pub fn service(field: &str) -> Result<Service, Wrong>
     ensures answer { result ≡ service_of_field field.now }
 {
-    match field {
-        "U" => Ok(Service::RegUp),
-        "D" => Ok(Service::RegDown),
-        "R" => Ok(Service::Responsive),
-        "N" => Ok(Service::NonSpin),
-        "E" => Ok(Service::Ecrs),
+    match field.as_bytes() {
+        [letter] => Service::try_from(char::from(*letter)).map_err(|_| Wrong::NotALetter),
         _ => Err(Wrong::NotALetter),
     }
 }

@@ -1,44 +1,9 @@
 // The groups of a feed, with figures that a word can hold.
 use crate::figure::Figure;
-use terms::service::{ByService, Service};
-
-// The ten quantities of a QSE in a service.
-#[derive(Clone, Copy)]
-pub struct Ten {
-    pub dasa: Figure,
-    pub rtsa: Figure,
-    pub trs: Figure,
-    pub rtpc: Figure,
-    pub pc: Figure,
-    pub ruc: Figure,
-    pub trp: Figure,
-    pub fq: Figure,
-    pub rfq: Figure,
-    pub inf: Figure,
-}
-
-// The figures of a resource.
-#[derive(Clone, Copy)]
-pub struct Told {
-    pub telemetered: ByService<Figure>,
-    pub npf: Figure,
-    pub lpc: Figure,
-}
-
-// The prices of a service.
-#[derive(Clone, Copy)]
-pub struct Capacity {
-    pub dam: Figure,
-    pub sasm: Figure,
-    pub rsasm: Figure,
-}
-
-// The prices of an interval.
-#[derive(Clone, Copy)]
-pub struct RealTime {
-    pub rtrsvpor: Figure,
-    pub rtrdp: Figure,
-}
+use market::figures::Figures;
+use market::prices::{IntervalPrices, ServicePrices};
+use market::quantities::Quantities;
+use terms::service::Service;
 
 // A group: one call of the book.
 #[derive(Clone, Copy)]
@@ -50,23 +15,23 @@ pub enum Group {
     Quantities {
         qse: Figure,
         service: Service,
-        ten: Ten,
+        ten: Quantities<Figure>,
     },
     Resource {
         number: Figure,
         qse: Figure,
         class: Figure,
-        told: Told,
+        told: Figures<Figure>,
     },
     Strike {
         number: Figure,
     },
     Prices {
         service: Service,
-        prices: Capacity,
+        prices: ServicePrices<Figure>,
     },
     Interval {
         number: Figure,
-        prices: RealTime,
+        prices: IntervalPrices<Figure>,
     },
 }

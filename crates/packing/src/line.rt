@@ -1,37 +1,35 @@
 // A line of text as a group.
-use crate::field::{figure, service};
+use crate::field::service;
 use crate::figure::Figure;
-use crate::group::{Capacity, Group, RealTime, Ten, Told};
+use crate::group::Group;
 use crate::wrong::Wrong;
-use std::str::SplitWhitespace;
-use terms::service::{ByService, Service};
+use market::figures::Figures;
+use market::prices::{IntervalPrices, ServicePrices};
+use market::quantities::Quantities;
+use std::str::{FromStr, SplitWhitespace};
+use terms::service::ByService;
 
 // A line up to its comment.
 fn without_comment(line: &str) -> &str {
-    match line.split_once('#') {
-        Some((before, _)) => before,
-        None => line,
-    }
+    line.split_once('#').map_or(line, |(before, _)| before)
 }
 
-// The next field as a figure.
+// The next field as what stands there.
+fn next<T, F: Fn(&str) -> Result<T, Wrong>>(
+    fields: &mut SplitWhitespace<'_>,
+    read: F,
+) -> Result<T, Wrong>
+    requires { F.IsAlwaysCallable read }
+{
+    read(fields.next().ok_or(Wrong::MissingField)?)
+}
+
 fn next_figure(fields: &mut SplitWhitespace<'_>) -> Result<Figure, Wrong> {
-    match fields.next() {
-        Some(field) => figure(field),
-        None => Err(Wrong::MissingField),
-    }
+    next(fields, Figure::from_str)
 }
 
-// The next field as a service.
-fn next_service(fields: &mut SplitWhitespace<'_>) -> Result<Service, Wrong> {
-    match fields.next() {
-        Some(field) => service(field),
-        None => Err(Wrong::MissingField),
-    }
-}
-
-fn next_ten(fields: &mut SplitWhitespace<'_>) -> Result<Ten, Wrong> {
-    Ok(Ten {
+fn next_ten(fields: &mut SplitWhitespace<'_>) -> Result<Quantities<Figure>, Wrong> {
+    Ok(Quantities {
         dasa: next_figure(fields)?,
         rtsa: next_figure(fields)?,
         trs: next_figure(fields)?,
@@ -45,8 +43,8 @@ fn next_ten(fields: &mut SplitWhitespace<'_>) -> Result<Ten, Wrong> {
     })
 }
 
-fn next_told(fields: &mut SplitWhitespace<'_>) -> Result<Told, Wrong> {
-    Ok(Told {
+fn next_told(fields: &mut SplitWhitespace<'_>) -> Result<Figures<Figure>, Wrong> {
+    Ok(Figures {
         telemetered: ByService {
             up: next_figure(fields)?,
             down: next_figure(fields)?,
@@ -59,16 +57,16 @@ fn next_told(fields: &mut SplitWhitespace<'_>) -> Result<Told, Wrong> {
     })
 }
 
-fn next_capacity(fields: &mut SplitWhitespace<'_>) -> Result<Capacity, Wrong> {
-    Ok(Capacity {
+fn next_capacity(fields: &mut SplitWhitespace<'_>) -> Result<ServicePrices<Figure>, Wrong> {
+    Ok(ServicePrices {
         dam: next_figure(fields)?,
         sasm: next_figure(fields)?,
         rsasm: next_figure(fields)?,
     })
 }
 
-fn next_real_time(fields: &mut SplitWhitespace<'_>) -> Result<RealTime, Wrong> {
-    Ok(RealTime {
+fn next_real_time(fields: &mut SplitWhitespace<'_>) -> Result<IntervalPrices<Figure>, Wrong> {
+    Ok(IntervalPrices {
         rtrsvpor: next_figure(fields)?,
         rtrdp: next_figure(fields)?,
     })
@@ -83,7 +81,7 @@ fn group_named(name: &str, fields: &mut SplitWhitespace<'_>) -> Result<Group, Wr
         }),
         "quantities" => Ok(Group::Quantities {
             qse: next_figure(fields)?,
-            service: next_service(fields)?,
+            service: next(fields, service)?,
             ten: next_ten(fields)?,
         }),
         "resource" => Ok(Group::Resource {
@@ -96,7 +94,7 @@ fn group_named(name: &str, fields: &mut SplitWhitespace<'_>) -> Result<Group, Wr
             number: next_figure(fields)?,
         }),
         "prices" => Ok(Group::Prices {
-            service: next_service(fields)?,
+            service: next(fields, service)?,
             prices: next_capacity(fields)?,
         }),
         "interval" => Ok(Group::Interval {

@@ -1,40 +1,25 @@
 // A group as words: a head, then its data, in the feed's order.
-ghost use Rattle.std.specs.Prelude.{◌≡◌, ◌≤◌, take};
+ghost use Rattle.std.specs.Prelude.{◌≡◌, ◌≤◌, length};
 ghost use Rattle.terms.specs.Services.{service_number};
 ghost use Rattle.packing.specs.Packing.{head_word, call_of_group, words_of_call, ReadAs};
 ghost use Rattle.packing.specs.Whole.{ReadInTurn, TakenWhole};
 
 use crate::figure::Figure;
 use crate::group::Group;
+use arrayvec::ArrayVec;
 use terms::service::Service;
 
-// The words of a group: the first `count`.
-#[derive(Clone, Copy)]
-pub struct GroupWords {
-    words: [u32; 12],
-    count: usize,
-    ghost within: { count ≤ 12 },
-}
-
-impl GroupWords {
-    // These words.
-    pub fn as_slice(&self) -> &[u32]
-        ensures answer { result.now ≡ take self.now.count self.now.words }
-    {
-        &self.words[0..self.count]
-    }
-}
+// The words of a group, of which none has more than twelve.
+pub type GroupWords = ArrayVec<u32, 12>;
 
 // The number that stands for a service in a feed.
-fn numbered(service: Service) -> Figure
-    ensures answer { result.value ≡ service_number service }
-{
-    match service {
-        Service::RegUp => Figure { value: 0 },
-        Service::RegDown => Figure { value: 1 },
-        Service::Responsive => Figure { value: 2 },
-        Service::NonSpin => Figure { value: 3 },
-        Service::Ecrs => Figure { value: 4 },
+impl From<Service> for Figure {
+    ghost from_gives = { λ service figure. figure.value ≡ service_number service };
+
+    fn from(service: Service) -> Figure {
+        Figure {
+            value: service as u32,
+        }
     }
 }
 
@@ -46,95 +31,70 @@ fn head(kind: u32, value: Figure) -> u32
     kind * (1 << 28) + value.value
 }
 
+// These words.
+fn words(words: &[u32]) -> GroupWords
+    requires few { length words.now ≤ 12 }
+    ensures answer { result.items ≡ words.now }
+{
+    let mut made = ArrayVec::new();
+    // never refused, since there is room for twelve
+    let _ = made.try_extend_from_slice(words);
+    made
+}
+
 // The words of a group. The feed reads them as the group's call, wherever they stand, and the words of many groups as
 // their calls in turn.
+#[tactic(auto, using(crate::proofs::Feeds::read_in_turn, crate::proofs::Feeds::taken_whole))]
 pub fn packed(group: &Group) -> GroupWords
-    ensures words { take result.count result.words ≡ words_of_call (call_of_group group.now) }
-    ensures read { ReadAs (call_of_group group.now) (take result.count result.words) }
+    ensures words { result.items ≡ words_of_call (call_of_group group.now) }
+    ensures read { ReadAs (call_of_group group.now) result.items }
     ensures turns { ReadInTurn }
     ensures whole { TakenWhole }
 {
     match *group {
-        Group::Enrol { qse, load } => GroupWords {
-            words: [head(1, qse), load.value, 0, 0, 0, 0, 0, 0, 0, 0, 0, 0],
-            count: 2,
-        },
-        Group::Quantities { qse, service, ten } => GroupWords {
-            words: [
-                head(2, qse),
-                numbered(service).value,
-                ten.dasa.value,
-                ten.rtsa.value,
-                ten.trs.value,
-                ten.rtpc.value,
-                ten.pc.value,
-                ten.ruc.value,
-                ten.trp.value,
-                ten.fq.value,
-                ten.rfq.value,
-                ten.inf.value,
-            ],
-            count: 12,
-        },
+        Group::Enrol { qse, load } => words(&[head(1, qse), load.value]),
+        Group::Quantities { qse, service, ten } => words(&[
+            head(2, qse),
+            Figure::from(service).value,
+            ten.dasa.value,
+            ten.rtsa.value,
+            ten.trs.value,
+            ten.rtpc.value,
+            ten.pc.value,
+            ten.ruc.value,
+            ten.trp.value,
+            ten.fq.value,
+            ten.rfq.value,
+            ten.inf.value,
+        ]),
         Group::Resource {
             number,
             qse,
             class,
             told,
-        } => GroupWords {
-            words: [
-                head(3, number),
-                qse.value,
-                class.value,
-                told.telemetered.up.value,
-                told.telemetered.down.value,
-                told.telemetered.responsive.value,
-                told.telemetered.nonspin.value,
-                told.telemetered.ecrs.value,
-                told.npf.value,
-                told.lpc.value,
-                0,
-                0,
-            ],
-            count: 10,
-        },
-        Group::Strike { number } => GroupWords {
-            words: [head(4, number), 0, 0, 0, 0, 0, 0, 0, 0, 0, 0, 0],
-            count: 1,
-        },
-        Group::Prices { service, prices } => GroupWords {
-            words: [
-                head(5, numbered(service)),
-                prices.dam.value,
-                prices.sasm.value,
-                prices.rsasm.value,
-                0,
-                0,
-                0,
-                0,
-                0,
-                0,
-                0,
-                0,
-            ],
-            count: 4,
-        },
-        Group::Interval { number, prices } => GroupWords {
-            words: [
-                head(6, number),
-                prices.rtrsvpor.value,
-                prices.rtrdp.value,
-                0,
-                0,
-                0,
-                0,
-                0,
-                0,
-                0,
-                0,
-                0,
-            ],
-            count: 3,
-        },
+        } => words(&[
+            head(3, number),
+            qse.value,
+            class.value,
+            told.telemetered.up.value,
+            told.telemetered.down.value,
+            told.telemetered.responsive.value,
+            told.telemetered.nonspin.value,
+            told.telemetered.ecrs.value,
+            told.npf.value,
+            told.lpc.value,
+        ]),
+        Group::Strike { number } => words(&[head(4, number)]),
+        Group::Prices { service, prices } => words(&[
+            head(5, Figure::from(service)),
+            prices.dam.value,
+            prices.sasm.value,
+            prices.rsasm.value,
+        ]),
+        Group::Interval { number, prices } => words(&[
+            head(6, number),
+            prices.rtrsvpor.value,
+            prices.rtrdp.value,
+        ]),
     }
 }

@@ -1,4 +1,6 @@
 // The tests of the calls that set prices.
+// Not one function generic in the place and its prices: its contract would speak of the ghost members of four conversions in
+// place of the market's definitions, and be no plainer.
 ghost use Rattle.std.specs.Prelude.{◌≡◌, not, ◌&&◌, is_ok, None, Ok};
 ghost use Rattle.terms.specs.declared.refusal.Refusal.TheVariants.{DraftOpen, FigureOutOfRange};
 ghost use Rattle.market.specs.Bare.{bare_service_prices, bare_interval_prices};

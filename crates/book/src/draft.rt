@@ -4,7 +4,8 @@ ghost use Rattle.std.specs.Prelude.{◌≡◌, true};
 // It is neither Copy nor let go before it is spent: issue or drop it.
 pub struct Draft {
     pub(crate) book: u32,
-    // only an issue or a drop makes it so, and takes the draft then
+    // Only an issue or a drop makes it so, and takes the draft then. A flag and no type of its own, since the gate refuses a
+    // `drop` that no draft could meet.
     pub(crate) spent: bool,
 }
 

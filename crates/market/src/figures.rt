@@ -9,7 +9,7 @@ use terms::refusal::Refusal;
 use terms::service::ByService;
 
 // Tenths of a MW within their limits, unless another type is named.
-#[derive(Clone, Copy)]
+#[derive(Clone, Copy, Default)]
 pub struct Figures<T = Tenths<3_000>> {
     // telemetered responsibility for each service
     pub telemetered: ByService<T>,

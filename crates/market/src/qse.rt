@@ -11,6 +11,7 @@ use terms::refusal::Refusal;
 use terms::service::ByService;
 
 // The row of a QSE as bare figures: what lies in a lent slot.
+// One type generic in its parts would be no plainer: three parameters, each for a single field.
 #[derive(Clone, Copy)]
 pub struct QseRow {
     pub number: u32,

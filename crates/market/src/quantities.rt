@@ -8,7 +8,7 @@ use crate::units::Tenths;
 use terms::refusal::Refusal;
 
 // The ten in the order in which they are given: tenths of a MW within their limits, unless another type is named.
-#[derive(Clone, Copy)]
+#[derive(Clone, Copy, Default)]
 pub struct Quantities<T = Tenths<20_000>> {
     // self-arranged in the Day-Ahead
     pub dasa: T,

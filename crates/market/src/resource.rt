@@ -12,6 +12,7 @@ use terms::refusal::Refusal;
 use terms::service::ByService;
 
 // The row of a resource as bare figures: what lies in a lent slot.
+// One type generic in its parts would be no plainer: three parameters, each for a single field.
 #[derive(Clone, Copy)]
 pub struct ResourceRow {
     pub number: u32,
@@ -38,11 +39,7 @@ impl ResourceRow {
             number: 0,
             qse: 0,
             class: Class::Generation,
-            figures: BareFigures {
-                telemetered: ByService::always(0),
-                npf: 0,
-                lpc: 0,
-            },
+            figures: BareFigures::default(),
         }
     }
 }

@@ -12,6 +12,7 @@ pub enum Interval {
     Fourth,
 }
 
+// Beside `ByService`, since one type for both would keep its places by index and not by name.
 #[derive(Clone, Copy)]
 pub struct ByInterval<T> {
     pub first: T,

@@ -14,7 +14,7 @@ pub enum Service {
 }
 
 // One of T for each service.
-#[derive(Clone, Copy)]
+#[derive(Clone, Copy, Default)]
 pub struct ByService<T> {
     pub up: T,
     pub down: T,

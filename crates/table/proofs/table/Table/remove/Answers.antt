@@ -1,6 +1,5 @@
 -- The row at the place of the number is struck.
-use Rattle.std.proofs.Common.{◌≡◌, ◌-◌, take, Ok, Err, sym, refl, arith}
-use Rattle.table.specs.Rows.{Rising, located, removed}
+use Rattle.std.proofs.Common.{Ok, Err, sym, refl, arith}
 use Rattle.table.specs.Tables.{rows}
 use Rattle.table.proofs.Calls.{placed, struck, sound_from_removed}
 use Rattle.table.proofs.Laws.{removed_absent}

@@ -8,8 +8,10 @@ ghost use Rattle.table.specs.Tables.{rows, capacity, Sound, full, absent, mispla
 
 use crate::numbered::Numbered;
 use crate::slots::{insert, locate, strike};
+use thiserror::Error;
 
-// Rows in rising order of number, in slots that the caller lends.
+// Rows in rising order of number, in slots that the caller lends. A buffer with a length beside it, since a library
+// here allocates nothing.
 #[derive(Drop)]
 pub struct Table<'a, R> {
     pub slots: &'a mut [R],
@@ -17,15 +19,18 @@ pub struct Table<'a, R> {
 }
 
 // The number is new, and every usable slot holds a row.
-#[derive(Clone, Copy, PartialEq, Eq, Debug)]
+#[derive(Clone, Copy, PartialEq, Eq, Debug, Error)]
+#[error("every slot holds a row")]
 pub struct Full;
 
 // No row has the number.
-#[derive(Clone, Copy, PartialEq, Eq, Debug)]
+#[derive(Clone, Copy, PartialEq, Eq, Debug, Error)]
+#[error("no row has the number")]
 pub struct Absent;
 
 // The place holds no row of the number.
-#[derive(Clone, Copy, PartialEq, Eq, Debug)]
+#[derive(Clone, Copy, PartialEq, Eq, Debug, Error)]
+#[error("the place holds no row of the number")]
 pub struct Misplaced;
 
 impl<'a, R: Numbered> Table<'a, R> {

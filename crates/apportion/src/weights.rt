@@ -7,9 +7,6 @@ use crate::weighted::Weighted;
 pub fn whole<R: Weighted>(rows: &[R]) -> Option<u64>
     ensures answer { result ≡ summed (map R.Weighted.weight rows.now) }
 {
-    let mut sum: u64 = 0;
-    for row in rows {
-        sum = sum.checked_add(row.weigh() as u64)?;
-    }
-    Some(sum)
+    rows.iter()
+        .try_fold(0, |sum: u64, row| sum.checked_add(row.weigh() as u64))
 }

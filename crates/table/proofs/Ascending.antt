@@ -1,6 +1,7 @@
 -- Rising order by recursion over the rows, for inductions.
 use Rattle.std.proofs.Common.{◌≡◌, ℕ, zero, suc, ◌<◌, eqb, ltb, List, [], ◌∷◌, map, length, get_or, None, refl, arith}
-use Rattle.std.proofs.ByRecursion.{All-weaker}
+use Rattle.std.proofs.ByRecursion.{All-get_or, All-map, All-weaker}
+use Rattle.std.proofs.lemmas.List.{length-map}
 use Rattle.std.proofs.lemmas.Bool.{cond_both, ltb-true, ltb-false, eqb-true, eqb-false}
 use Rattle.std.proofs.lemmas.Bool.Decides.{nat_tests}
 use Rattle.std.specs.List.{AllByRecursion as All}
@@ -12,9 +13,7 @@ all_from_places P f d [] h = tt
 all_from_places P f d (r ∷ rs) h = (h 0 (omega arith), all_from_places P f d rs (λ k l. h (suc k) (omega arith)))
 
 pub places_from_all : {R A : Type 0} (P : A → Type 0) (f : R → A) (d : A) (rows : List R) → All (λ r. P (f r)) rows → (k : ℕ) → k < length rows → P (get_or (map f rows) k d)
-places_from_all P f d [] a k l = absurd (omega arith)
-places_from_all P f d (r ∷ rs) a zero l = a.0
-places_from_all P f d (r ∷ rs) a (suc k) l = places_from_all P f d rs a.1 k (omega arith)
+places_from_all P f d rows a k l = All-get_or P (map f rows) k d (omega (arith, length-map rows f)) (All-map P f rows a)
 
 module _ {R : Type 0} (num : R → ℕ) where
   -- what holds of each row and of the row put holds of each after it

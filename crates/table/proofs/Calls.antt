@@ -1,5 +1,6 @@
 -- What each call of a table answers and leaves, over the lists of its slots and rows.
-use Rattle.std.proofs.Common.{◌≡◌, ℕ, ◌+◌, ◌-◌, ◌<◌, ◌≤◌, Bool, true, false, List, length, get_or, take, set, Some, None, Ok, Err, Option, Result, sym, refl, ◌∙◌, arith, length-take}
+use Rattle.std.proofs.Common.{◌≡◌, ℕ, ◌+◌, ◌-◌, ◌<◌, Bool, true, false, List, length, get_or, take, set, Some, None, Ok, Err, Option, Result, sym, refl, ◌∙◌, arith, length-take}
+use Rattle.std.proofs.Math.Seq.{take-set-lt}
 use Rattle.std.proofs.lemmas.List.{get_or-take}
 use Rattle.std.proofs.lemmas.Option.{slice_get_read}
 use Rattle.std.proofs.lemmas.Bool.Decides.{nat_tests}
@@ -8,8 +9,8 @@ use Rattle.std.specs.List.{slice_get}
 use Rattle.table.specs.Rows.{Rising, AllSound, located, put, removed, fits, holds}
 use Rattle.table.proofs.Halving.{located_at, number_read}
 use Rattle.table.proofs.Laws.{rising_put, rising_removed, sound_put, sound_removed}
-use Rattle.table.proofs.Places.{known_from_ok, new_from_err, put_at, put_between, removed_at}
-use Rattle.table.proofs.Shift.{taken_length, take_set_within}
+use Rattle.table.proofs.Places.{known_from_ok, rank_within, put_at, put_between, removed_at}
+use Rattle.table.proofs.Shift.{taken_length}
 
 module _ {R : Type 0} (num : R → ℕ) where
   -- where a number stands in the rows, by where it stands in an equal list
@@ -24,12 +25,12 @@ module _ {R : Type 0} (num : R → ℕ) where
   pub fits_free : (cap : ℕ) (x : R) (rows : List R) → length rows < cap → fits num cap (num x) rows ≡ true
   fits_free cap x rows h = grind (arith, nat_tests)
 
-  pub fits_full : (cap : ℕ) (x : R) (rows : List R) (i : ℕ) → cap ≤ length rows → located num (num x) rows ≡ Err i → fits num cap (num x) rows ≡ false
-  fits_full cap x rows i h e = let k = (new_from_err num (num x) rows i e).0 in grind (arith, nat_tests)
-
   -- a row written over that of its number
   pub overwritten : (xs : List R) (len i : ℕ) (x : R) → Rising num (take len xs) → located num (num x) (take len xs) ≡ Ok i → take len (set xs i x) ≡ put num x (take len xs)
-  overwritten xs len i x up e = take_set_within len xs i x ∙ sym (put_at num x (take len xs) i up e)
+  overwritten xs len i x up e =
+      let h = known_from_ok num (num x) (take len xs) i e in
+      let l = rank_within num (num x) (take len xs) h.0 in
+      take-set-lt len xs i x (omega (arith, length-take len xs)) ∙ sym (put_at num x (take len xs) i up e)
 
   -- a row entered where its number belongs
   pub entered : (xs ys : List R) (len used i : ℕ) (x : R) → used ≡ length (take len xs) → take (used + 1) ys ≡ holes.insert (take used xs) i x → located num (num x) (take len xs) ≡ Err i → take (used + 1) ys ≡ put num x (take len xs)

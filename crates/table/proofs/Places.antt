@@ -1,7 +1,9 @@
 -- Where a number stands among rising rows, and what an edit at that place comes to, for callers to cite.
 -- `num` is the number of a row.
 use Rattle.std.proofs.Common.{◌≡◌, ℕ, zero, suc, ◌<◌, Bool, true, false, List, [], ◌∷◌, length, set, Some, None, Ok, Err, refl, subst, arith}
+use Rattle.std.proofs.ByRecursion.{All-get_or}
 use Rattle.std.proofs.lemmas.Bool.Decides.{nat_tests}
+use Rattle.std.proofs.lemmas.Option.{get_or_from_slice_get, slice_get_within}
 use Rattle.std.specs.List as holes
 use Rattle.std.specs.List.{AllByRecursion as All, slice_get}
 use Rattle.table.specs.Rows.{Rising, AllSound, found, known, rank, located, holds, put, removed}
@@ -9,9 +11,7 @@ use Rattle.table.proofs.Ascending.{Ascending, ascending_from_rising, found_befor
 
 -- what holds of each row holds of the row at a place
 all_nth : {R : Type 0} (P : R → Type 0) (rows : List R) (i : ℕ) (r : R) → All P rows → slice_get rows i ≡ Some r → P r
-all_nth P [] i r a e = let z : ◌≡◌ {A = ℕ} 0 1 = cc in absurd (omega arith)
-all_nth P (q ∷ rs) zero r a e = let s : q ≡ r = cc in subst P s a.0
-all_nth P (q ∷ rs) (suc i) r a e = all_nth P rs i r a.1 e
+all_nth P rows i r a e = subst P (get_or_from_slice_get rows i r r e) (All-get_or P rows i r (slice_get_within rows i r e) a)
 
 module _ {R : Type 0} (num : R → ℕ) where
   put_new : (x : R) (rows : List R) → known num (num x) rows ≡ false → put num x rows ≡ holes.insert rows (rank num (num x) rows) x

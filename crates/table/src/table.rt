@@ -8,8 +8,10 @@ ghost use Rattle.table.specs.Tables.{rows, capacity, Sound, full, absent, mispla
 
 use crate::numbered::Numbered;
 use crate::slots::{insert, locate, strike};
+use thiserror::Error;
 
-// Rows in rising order of number, in slots that the caller lends.
+// Rows in rising order of number, in slots that the caller lends. A buffer with a length beside it, since a library
+// here allocates nothing.
 #[derive(Drop)]
 pub struct Table<'a, R> {
     pub slots: &'a mut [R],
@@ -17,15 +19,18 @@ pub struct Table<'a, R> {
 }
 
 // The number is new, and every usable slot holds a row.
-#[derive(Clone, Copy, Debug)]
+#[derive(Clone, Copy, PartialEq, Eq, Debug, Error)]
+#[error("every slot holds a row")]
 pub struct Full;
 
 // No row has the number.
-#[derive(Clone, Copy, Debug)]
+#[derive(Clone, Copy, PartialEq, Eq, Debug, Error)]
+#[error("no row has the number")]
 pub struct Absent;
 
 // The place holds no row of the number.
-#[derive(Clone, Copy, Debug)]
+#[derive(Clone, Copy, PartialEq, Eq, Debug, Error)]
+#[error("the place holds no row of the number")]
 pub struct Misplaced;
 
 impl<'a, R: Numbered> Table<'a, R> {
@@ -70,22 +75,14 @@ impl<'a, R: Numbered> Table<'a, R> {
     pub fn find(&self, number: u32) -> Option<usize>
         ensures answer { Sound R.Numbered.number R.Numbered.sound self.now → result ≡ (if known R.Numbered.number number (rows self.now) then Some (rank R.Numbered.number number (rows self.now)) else None) }
     {
-        match locate(self.as_slice(), number) {
-            Ok(place) => Some(place),
-            Err(_) => None,
-        }
+        locate(self.as_slice(), number).ok()
     }
 
     // The row at a place, if there is one.
     pub fn row(&self, place: usize) -> Option<R>
         ensures answer { result ≡ slice_get (rows self.now) place }
     {
-        let held = self.as_slice();
-        if place < held.len() {
-            Some(held[place])
-        } else {
-            None
-        }
+        self.as_slice().get(place).copied()
     }
 
     // The row of a number, if there is one.
@@ -93,10 +90,8 @@ impl<'a, R: Numbered> Table<'a, R> {
         ensures answer { Sound R.Numbered.number R.Numbered.sound self.now → result ≡ found R.Numbered.number number (rows self.now) }
     {
         let held = self.as_slice();
-        match locate(held, number) {
-            Ok(there) => Some(held[there]),
-            Err(_) => None,
-        }
+        let there = locate(held, number).ok()?;
+        Some(held[there])
     }
 
     // Puts a row in its place, or in the place of the row of its number.
@@ -131,14 +126,12 @@ impl<'a, R: Numbered> Table<'a, R> {
         ensures capacity { capacity self.new ≡ capacity self.old }
     {
         let used = self.len();
-        match locate(self.as_slice(), number) {
-            Ok(place) => {
-                strike(self.slots, used, place);
-                self.len = used - 1;
-                Ok(())
-            }
-            Err(_) => Err(Absent),
-        }
+        let Ok(place) = locate(self.as_slice(), number) else {
+            return Err(Absent);
+        };
+        strike(self.slots, used, place);
+        self.len = used - 1;
+        Ok(())
     }
 
     // Puts another row of the same number at a place.

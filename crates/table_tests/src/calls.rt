@@ -34,10 +34,7 @@ impl<'a> Ledger<'a> {
         ensures after { rows self.new.meters ≡ (if result then put meter_number meter (rows self.old.meters) else rows self.old.meters) }
         ensures stations { rows self.new.stations ≡ rows self.old.stations }
     {
-        if meter.reading > 9999 {
-            return false;
-        }
-        self.meters.put(meter).is_ok()
+        meter.reading <= 9999 && self.meters.put(meter).is_ok()
     }
 
     // Enters a meter, and then reads the meter of its number: itself, unless it was refused.
@@ -53,13 +50,11 @@ impl<'a> Ledger<'a> {
         ensures answer { result ≡ known meter_number number (rows self.old.meters) }
         ensures after { rows self.new.meters ≡ (if result then put meter_number (record { number = number; reading = 0 }) (rows self.old.meters) else rows self.old.meters) }
     {
-        match self.meters.find(number) {
-            Some(place) => self
-                .meters
-                .update(place, Meter { number, reading: 0 })
-                .is_ok(),
-            None => false,
-        }
+        let Some(place) = self.meters.find(number) else {
+            return false;
+        };
+        let nothing = Meter { number, reading: 0 };
+        self.meters.update(place, nothing).is_ok()
     }
 
     // Takes the meter of a number out.

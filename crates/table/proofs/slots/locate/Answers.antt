@@ -4,10 +4,6 @@ use Rattle.table.proofs.Halving.{narrowed_up, narrowed_down, number_read, locate
 use Rattle.table.proofs.slots.locate.Goals as goal
 use Rattle.table.proofs.slots.locate.Goals.{then-key-number, else-key-number}
 
-pub returns-then-left-eq0 : goal.returns-then-left-eq0
-returns-then-left-eq0 g c =
-    record { answer = λ up. sym (located_between g.R.Numbered.number c.args.number c.args.held.now 0 up (omega arith) (λ h. absurd (omega arith)) (λ h. absurd (omega arith))); within = omega arith }
-
 pub loop-left-preserved : goal.loop-left-preserved
 loop-left-preserved g c =
     let num = g.R.Numbered.number in
@@ -20,35 +16,29 @@ loop-left-preserved g c =
       | else-key-number w ↦ narrowed_down num c.args.number rows base left c.if-key-number.base c.loop-left.invariant c.loop-left-test.true w.base-is (omega (arith, w.if-key-number.false, c.key.ensures.answer))
     ]
 
-pub returns-then-key-number-2 : goal.returns-then-key-number-2
-returns-then-key-number-2 g c =
+pub returns-then-key-number-2-clause-answer : goal.returns-then-key-number-2-clause-answer
+returns-then-key-number-2-clause-answer g c =
     let num = g.R.Numbered.number in
     let rows = c.args.held.now in
     let base = c.loop-left.base in
     let read = number_read num rows base c.index-held-base-2.result (omega arith) c.index-held-base-2.is in
-    record { answer = λ up. sym (located_at num c.args.number rows base up (omega arith) (omega (arith, c.key-key.ensures.answer))); within = omega arith }
+    λ up. sym (located_at num c.args.number rows base up (omega arith) (omega (arith, c.key-key.ensures.answer)))
 
-pub returns-then-key-number-3 : goal.returns-then-key-number-3
-returns-then-key-number-3 g c =
+pub returns-then-key-number-3-clause-answer : goal.returns-then-key-number-3-clause-answer
+returns-then-key-number-3-clause-answer g c =
     let num = g.R.Numbered.number in
     let rows = c.args.held.now in
     let base = c.loop-left.base in
     let read = number_read num rows base c.index-held-base-2.result (omega arith) c.index-held-base-2.is in
     let last : base + 1 - 1 ≡ base = omega arith in
     let one : base + 1 ≡ base + c.loop-left.left = omega arith in
-    record {
-      answer = λ up. sym (located_between num c.args.number rows (base + 1) up (omega arith) (λ _. rw last (omega (arith, c.key-key.ensures.answer))) (λ l. rw one (c.loop-left.invariant.3 up (omega arith))));
-      within = omega arith;
-    }
+    λ up. sym (located_between num c.args.number rows (base + 1) up (omega arith) (λ _. rw last (omega (arith, c.key-key.ensures.answer))) (λ l. rw one (c.loop-left.invariant.3 up (omega arith))))
 
-pub returns-else-key-number-3 : goal.returns-else-key-number-3
-returns-else-key-number-3 g c =
+pub returns-else-key-number-3-clause-answer : goal.returns-else-key-number-3-clause-answer
+returns-else-key-number-3-clause-answer g c =
     let num = g.R.Numbered.number in
     let rows = c.args.held.now in
     let base = c.loop-left.base in
     let read = number_read num rows base c.index-held-base-2.result (omega arith) c.index-held-base-2.is in
     let above : c.args.number < get_or (map num rows) base 0 = omega (arith, c.key-key.ensures.answer, c.if-key-number-2.false) in
-    record {
-      answer = λ up. sym (located_between num c.args.number rows base up (omega arith) (λ p. absurd (omega (arith, c.loop-left.invariant.2 p))) (λ l. above));
-      within = omega arith;
-    }
+    λ up. sym (located_between num c.args.number rows base up (omega arith) (λ p. absurd (omega (arith, c.loop-left.invariant.2 p))) (λ l. above))

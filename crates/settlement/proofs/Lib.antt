@@ -1,7 +1,7 @@
 mod Rows
 mod Bills
 mod Counts
-mod Charges
 mod Pairs
+mod Charges
 mod Services
-mod Hour
+mod Steps

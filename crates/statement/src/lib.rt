@@ -6,8 +6,8 @@
 //     stdout.write_all(&out[0..end])
 #![tactic(auto)]
 
-mod decimal;
 pub mod fault_line;
+mod figures;
 pub mod length;
 mod lines;
 mod output;

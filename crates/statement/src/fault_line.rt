@@ -15,7 +15,7 @@ pub fn fault_line(fault: &Fault, out: &mut [u8]) -> Result<usize, Refusal>
     ensures after { out.new ≡ overlaid (fault_text fault.now) out.old }
 {
     let mut digits = Buffer::new();
-    let mut line = ArrayString::<69>::new();
+    let mut line = ArrayString::<35>::new();
     line.push_str("fault ");
     line.push_str(digits.format(fault.refusal.number()));
     line.push_str(" ");

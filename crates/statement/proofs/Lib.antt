@@ -1,5 +1,3 @@
-mod Accounts
-mod Digits
 mod Limits
-mod Places
+mod Parts
 mod Sums

@@ -3,6 +3,7 @@ ghost use Rattle.book.specs.View.{view};
 ghost use Rattle.statement.specs.Output.{LengthAnswer};
 
 use crate::statement::put_book;
+use arrayvec::ArrayString;
 use book::book::Book;
 use terms::refusal::Refusal;
 
@@ -13,8 +14,8 @@ pub fn length(book: &Book) -> Result<usize, Refusal>
     if !book.issued() {
         return Err(Refusal::NothingIssued);
     }
-    let mut first = [0u8; 26];
-    let lines = put_book(&mut first, 0, book.number());
+    let mut first = ArrayString::<16>::new();
+    put_book(&mut first, book.number());
     // five lines of at most 38 bytes to a QSE, and 42 for the last line
-    Ok(lines + 5 * 38 * book.accounts().len() + 42)
+    Ok(first.len() + 5 * 38 * book.accounts().len() + 42)
 }

@@ -1,5 +1,5 @@
 // Groups of a feed: a head and its data words, tested and made as the call that they mean.
-ghost use Rattle.std.specs.Prelude.{◌≡◌, ◌+◌, ◌^◌, ◌<◌, length};
+ghost use Rattle.std.specs.Prelude.{◌≡◌, ◌+◌, ◌^◌, ◌<◌, length, IfOk};
 ghost use Rattle.history.specs.Called.{Called};
 ghost use Rattle.book.specs.View.{view, said};
 ghost use Rattle.feed.specs.Groups.{needed, first_other};
@@ -119,11 +119,13 @@ impl<'a> Group<'a> {
     pub(crate) fn make(&self, book: &mut Book) -> Result<usize, Fault>
         ensures answer { result ≡ group_answer self.now.index (length self.now.words.now) (Ok (group_call self.now)) (view book.old) }
         ensures after { view book.new ≡ group_left (Ok (group_call self.now)) (view book.old) }
+        ensures count { IfOk result (λ n. n ≡ length self.now.words.now) }
     {
+        let index = self.index;
         self.call(book).map_err(|refusal| Fault {
             refusal,
             layer: Layer::Book,
-            index: self.index,
+            index,
         })?;
         Ok(self.words.len())
     }

@@ -56,6 +56,8 @@ group_whole i word n rest h e m enough data_alone =
     let parts = head_parts (value_of word) (kind_numbered (kind_of word)) h e in
     let kind : kind_of word ≡ kind_number h.kind = kind_known (kind_of word) h.kind parts.0 in
     let count : n ≡ needed (kind_of word) = m ∙ sym (ap needed kind) in
-    let size : length (take n rest) ≡ n = length-take-le n rest enough in
-    (size ∙ count, subst (λ (x : ℕ). x ≤ length rest) count enough,
-    rw (kind, parts.1, lawful h.kind, ← m, le-leb n (length rest) enough, data_alone) (ap Ok (sym (call_taken h.kind h.value rest) ∙ ap (λ (x : ℕ). call_of (kind_number h.kind) h.value (take x rest)) (sym m))))
+    let size : length (take n rest) ≡ n = length-take-le n rest enough in (
+      size ∙ count,
+      subst (λ (x : ℕ). x ≤ length rest) count enough,
+      rw (kind, parts.1, lawful h.kind, ← m, le-leb n (length rest) enough, data_alone) (ap Ok (sym (call_taken h.kind h.value rest) ∙ ap (λ (x : ℕ). call_of (kind_number h.kind) h.value (take x rest)) (sym m))),
+    )

@@ -16,6 +16,7 @@ pub fn feed(book: &mut Book, words: &[u32]) -> Result<usize, Fault>
     ensures rests { ((view book.new).number ≡ (view book.old).number) × ((view book.new).drafted ≡ (view book.old).drafted) }
 {
     let mut left = words;
+    // counted by hand: slice patterns give no iterator, and one of groups would only hide `left` and the index
     let mut groups = 0;
     while let [head, rest @ ..] = left {
         let index = words.len() - left.len();

@@ -66,7 +66,7 @@ loop-left-preserved c =
     let more = fed_more ws (get_or ws 0 0) rest left count i c.loop-left.groups m t so.0 (feeding c.args.words.now (view c.args.book.now)) split (take_rest rest count) g.0 g.1 so.1 in
     record {
       within = omega (arith, ap length split, size, within, c.loop-left.invariant.within);
-      whole = (more.0, more.1 ∙ ap (λ (j : ℕ). fed left 0 j (c.loop-left.groups + 1) t more.0) index)
+      whole = (more.0, more.1 ∙ ap (λ (j : ℕ). fed left 0 j (c.loop-left.groups + 1) t more.0) index);
     }
 
 pub returns : goal.returns

@@ -8,7 +8,7 @@ use Rattle.feed.proofs.feed.feed.Given as goal
 abbrev pub invariant-loop-left : goal.invariant-loop-left
 invariant-loop-left l = record {
   within : l.groups + length l.left ≤ length l.words;
-  whole : (made : History) × (feeding l.words (view l.initial.book) ≡ fed l.left 0 (length l.words - length l.left) l.groups (view l.book) made)
+  whole : (made : History) × (feeding l.words (view l.initial.book) ≡ fed l.left 0 (length l.words - length l.left) l.groups (view l.book) made);
 }
 
 abbrev pub decreases-loop-left : goal.decreases-loop-left

@@ -1,11 +1,10 @@
 -- The call of a group, and what making it answers and leaves.
-use Rattle.std.proofs.Common.{◌≡◌, ℕ, true, List, Some, None, Ok, Err, Option, Result, sym, refl, ap, ◌∙◌, arith}
-use Rattle.std.proofs.lemmas.Bool.{ne_eqb}
+use Rattle.std.proofs.Common.{◌≡◌, ℕ, true, List, Some, None, Ok, Err, Option, Result, sym, ap, ◌∙◌, arith}
 use Rattle.terms.specs.declared.fault.Fault.{Fault}
 use Rattle.terms.specs.declared.fault.Layer.TheVariants.{Book}
 use Rattle.terms.specs.declared.refusal.Refusal.{Refusal}
 use Rattle.history.specs.Called.{Called}
-use Rattle.history.specs.Calls.{State, Call, interval, Answer, refused, done, refusal, granted, answer_by}
+use Rattle.history.specs.Calls.{State, Call, Answer, refused, refusal, granted, answer_by}
 use Rattle.history.specs.Histories.{taken}
 use Rattle.history.proofs.Words.{granted_taken}
 use Rattle.feed.specs.Words.{kind_of}

@@ -1,11 +1,13 @@
 // A group as words: a head, then its data, in the feed's order.
 ghost use Rattle.std.specs.Prelude.{◌≡◌, ◌≤◌, take};
 ghost use Rattle.terms.specs.Services.{service_number};
+ghost use Rattle.feed.specs.Heads.{kind_number};
 ghost use Rattle.packing.specs.Packing.{head_word, call_of_group, words_of_call, ReadAs};
 ghost use Rattle.packing.specs.Whole.{ReadInTurn, TakenWhole};
 
 use crate::figure::Figure;
 use crate::group::Group;
+use feed::head::Kind;
 use terms::service::Service;
 
 // The words of a group: the first `count`.
@@ -39,11 +41,10 @@ fn numbered(service: Service) -> Figure
 }
 
 // A head word: the kind in the top four bits, the value in the others.
-fn head(kind: u32, value: Figure) -> u32
-    requires kind { kind ≤ 6 }
-    ensures answer { result ≡ head_word kind value.value }
+fn head(kind: Kind, value: Figure) -> u32
+    ensures answer { result ≡ head_word (kind_number kind) value.value }
 {
-    kind * (1 << 28) + value.value
+    u32::from(kind) * (1 << 28) + value.value
 }
 
 // The words of a group. The feed reads them as the group's call, wherever they stand, and the words of many groups as
@@ -56,12 +57,25 @@ pub fn packed(group: &Group) -> GroupWords
 {
     match *group {
         Group::Enrol { qse, load } => GroupWords {
-            words: [head(1, qse), load.value, 0, 0, 0, 0, 0, 0, 0, 0, 0, 0],
+            words: [
+                head(Kind::Enrol, qse),
+                load.value,
+                0,
+                0,
+                0,
+                0,
+                0,
+                0,
+                0,
+                0,
+                0,
+                0,
+            ],
             count: 2,
         },
         Group::Quantities { qse, service, ten } => GroupWords {
             words: [
-                head(2, qse),
+                head(Kind::Quantities, qse),
                 numbered(service).value,
                 ten.dasa.value,
                 ten.rtsa.value,
@@ -83,7 +97,7 @@ pub fn packed(group: &Group) -> GroupWords
             told,
         } => GroupWords {
             words: [
-                head(3, number),
+                head(Kind::Resource, number),
                 qse.value,
                 class.value,
                 told.telemetered.up.value,
@@ -99,12 +113,12 @@ pub fn packed(group: &Group) -> GroupWords
             count: 10,
         },
         Group::Strike { number } => GroupWords {
-            words: [head(4, number), 0, 0, 0, 0, 0, 0, 0, 0, 0, 0, 0],
+            words: [head(Kind::Strike, number), 0, 0, 0, 0, 0, 0, 0, 0, 0, 0, 0],
             count: 1,
         },
         Group::Prices { service, prices } => GroupWords {
             words: [
-                head(5, numbered(service)),
+                head(Kind::Prices, numbered(service)),
                 prices.dam.value,
                 prices.sasm.value,
                 prices.rsasm.value,
@@ -121,7 +135,7 @@ pub fn packed(group: &Group) -> GroupWords
         },
         Group::Interval { number, prices } => GroupWords {
             words: [
-                head(6, number),
+                head(Kind::Interval, number),
                 prices.rtrsvpor.value,
                 prices.rtrdp.value,
                 0,

@@ -1,4 +1,4 @@
-use Rattle.std.proofs.Common.{◌≡◌, ℕ, ◌+◌, ◌-◌, ◌≤◌, [], length, get_or, take, drop, ap, ◌∙◌, arith, rules}
+use Rattle.std.proofs.Common.{◌≡◌, ℕ, ◌+◌, ◌-◌, ◌≤◌, length, get_or, take, drop, ap, ◌∙◌, arith, rules}
 use Rattle.std.proofs.lemmas.Result.{err_from_is_err_and}
 use Rattle.std.proofs.lemmas.List.{take_rest, length-drop}
 use Rattle.book.specs.View.{view}
@@ -8,11 +8,6 @@ use Rattle.feed.proofs.Fed.{head_rest, fed_more, fed_ends, fed_all, feeding_live
 use Rattle.feed.proofs.Made.{group_made, group_unread}
 use Rattle.feed.proofs.Rests.{feeding_rests}
 use Rattle.feed.proofs.feed.feed.Goals as goal
-
-pub loop-left-init : goal.loop-left-init
-loop-left-init c =
-    let none : 0 ≡ length c.args.words.now - length c.args.words.now = omega arith in
-    record { within = omega arith; whole = ([], ap (λ (i : ℕ). fed c.args.words.now 0 i 0 (view c.args.book.now) []) none) }
 
 pub returns-in_err-read : goal.returns-in_err-read
 returns-in_err-read c =

@@ -8,7 +8,7 @@ use Rattle.feed.specs.declared.head.Head.{Head}
 use Rattle.feed.specs.declared.head.Kind.{Kind}
 use Rattle.feed.specs.declared.head.Kind.TheVariants.{Enrol, Quantities, Resource, Strike, Prices, Interval}
 use Rattle.feed.specs.Words.{kind_of, value_of}
-use Rattle.feed.specs.Groups.{is_head, needed, call_of, first_other, group_at}
+use Rattle.feed.specs.Groups.{is_head, needed, call_of, first_other, group_at, GroupTested}
 use Rattle.feed.specs.Heads.{kind_number, kind_numbered, head_with, head_of}
 
 -- a number that is read as a kind is that kind's
@@ -51,13 +51,12 @@ call_taken Interval value d =
     λ j. interval value (record { rtrsvpor = g 0 (omega arith) j; rtrdp = g 1 (omega arith) j })
 
 -- a head with as many words after it as its kind needs, all of them data, is read as their call
-pub group_whole : (i word n : ℕ) (rest : List ℕ) (h : Head) → Ok h ≡ head_of word → n ≡ needed (kind_number h.kind) → n ≤ length rest → first_other (take n rest) ≡ None → (length (take n rest) ≡ needed (kind_of word)) × (needed (kind_of word) ≤ length rest) × (group_at i word rest ≡ Ok (call_of (kind_number h.kind) h.value (take n rest)))
+pub group_whole : (i word n : ℕ) (rest : List ℕ) (h : Head) → Ok h ≡ head_of word → n ≡ needed (kind_number h.kind) → n ≤ length rest → first_other (take n rest) ≡ None → GroupTested i word rest (Ok (length (take n rest))) × (group_at i word rest ≡ Ok (call_of (kind_number h.kind) h.value (take n rest)))
 group_whole i word n rest h e m enough data_alone =
     let parts = head_parts (value_of word) (kind_numbered (kind_of word)) h e in
     let kind : kind_of word ≡ kind_number h.kind = kind_known (kind_of word) h.kind parts.0 in
     let count : n ≡ needed (kind_of word) = m ∙ sym (ap needed kind) in
-    let size : length (take n rest) ≡ n = length-take-le n rest enough in (
-      size ∙ count,
-      subst (λ (x : ℕ). x ≤ length rest) count enough,
-      rw (kind, parts.1, lawful h.kind, ← m, le-leb n (length rest) enough, data_alone) (ap Ok (sym (call_taken h.kind h.value rest) ∙ ap (λ (x : ℕ). call_of (kind_number h.kind) h.value (take x rest)) (sym m))),
-    )
+    let size : length (take n rest) ≡ n = length-take-le n rest enough in
+    let taken : call_of (kind_number h.kind) h.value (take n rest) ≡ call_of (kind_number h.kind) h.value rest = ap (λ (x : ℕ). call_of (kind_number h.kind) h.value (take x rest)) m ∙ call_taken h.kind h.value rest in
+    let whole : group_at i word rest ≡ Ok (call_of (kind_number h.kind) h.value rest) = rw (kind, parts.1, lawful h.kind, ← m, le-leb n (length rest) enough, data_alone) refl in
+    ((size ∙ count, subst (λ (x : ℕ). x ≤ length rest) count enough, whole ∙ (λ j. Ok (call_of (sym kind j) (sym parts.1 j) rest))), whole ∙ ap Ok (sym taken))

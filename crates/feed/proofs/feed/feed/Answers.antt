@@ -37,7 +37,7 @@ returns-in_err-count c =
     let so = c.loop-left.invariant.whole in
     let some : 1 ≤ length ws = search rules in
     let read = c.in_ok-read.ensures.read in
-    let g = group_made i _ _ (get_or ws 0 0) rest _ m t (group_call c.in_ok-read.field-0) read.0 read.1 read.3 c.in_err-count.ensures.answer c.in_err-count.ensures.after in
+    let g = group_made i _ _ (get_or ws 0 0) rest _ m t (group_call c.in_ok-read.field-0) read.0 read.1.0 read.2 c.in_err-count.ensures.answer c.in_err-count.ensures.after in
     let e = fed_ends ws (get_or ws 0 0) rest f i c.loop-left.groups m t so.0 (feeding c.args.words.now s) (head_rest ws some) g.0 g.1 so.1 in
     rw (p.1, p.2) (record { answer = e.0; after = e.1; history = feeding_lived c.args.words.now s t e.1; rests = feeding_rests c.args.words.now s t e.1 })
 
@@ -54,10 +54,10 @@ loop-left-preserved c =
     let some : 1 ≤ length ws = search rules in
     let split = head_rest ws some in
     let read = c.in_ok-read.ensures.read in
-    let within : count ≤ length rest = omega (arith, read.1, read.2, c.in_ok-count.ensures.count) in
+    let within : count ≤ length rest = omega (arith, read.1.0, read.1.1, c.in_ok-count.ensures.count) in
     let size : length left ≡ length rest - count = ap length (take_rest rest count) ∙ length-drop count rest in
     let index : i + (1 + count) ≡ length c.args.words.now - length left = omega (arith, ap length split, size, within, c.loop-left.invariant.within) in
-    let g = group_made i _ _ (get_or ws 0 0) rest _ m t (group_call c.in_ok-read.field-0) read.0 read.1 read.3 c.in_ok-count.ensures.answer c.in_ok-count.ensures.after in
+    let g = group_made i _ _ (get_or ws 0 0) rest _ m t (group_call c.in_ok-read.field-0) read.0 read.1.0 read.2 c.in_ok-count.ensures.answer c.in_ok-count.ensures.after in
     let more = fed_more ws (get_or ws 0 0) rest left count i c.loop-left.groups m t so.0 (feeding c.args.words.now (view c.args.book.now)) split (take_rest rest count) g.0 g.1 so.1 in
     record {
       within = omega (arith, ap length split, size, within, c.loop-left.invariant.within);

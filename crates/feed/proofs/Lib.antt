@@ -1,3 +1,4 @@
+mod Heads
 mod Fed
 mod Made
 mod Others

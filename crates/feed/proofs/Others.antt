@@ -1,8 +1,8 @@
--- The first word that is not data, found word by word.
-use Rattle.std.proofs.Common.{◌≡◌, ℕ, suc, ◌+◌, ◌<◌, eqb, List, length, get_or, drop, Some, None, Option, refl, ap, ◌∙◌, arith}
+-- The first word that is not data.
+use Rattle.std.proofs.Common.{◌≡◌, ℕ, suc, ◌+◌, cond, Bool, true, false, not, eqb, List, [], ◌∷◌, Some, None, Option, sym, refl, ap, ◌∙◌, arith}
+use Rattle.std.specs.List.{position, position_from}
 use Rattle.std.specs.Option.{option_map}
-use Rattle.std.proofs.lemmas.List.{drop_more}
-use Rattle.std.proofs.lemmas.Bool.{cond-true, cond-false, eq-eqb, ne_eqb}
+use Rattle.std.proofs.lemmas.Iterator.Adapters.{position_from-zero}
 use Rattle.feed.specs.Words.{kind_of}
 use Rattle.feed.specs.Groups.{first_other}
 
@@ -19,10 +19,13 @@ further_suc : (n : ℕ) (o : Option ℕ) → further n (option_map suc o) ≡ fu
 further_suc n None = refl
 further_suc n (Some place) = ap (λ (k : ℕ). Some k) (omega arith)
 
--- at a word of data the first other one lies further on
-pub other_further : (ws : List ℕ) (i : ℕ) → i < length ws → kind_of (get_or ws i 0) ≡ 0 → further i (first_other (drop i ws)) ≡ further (i + 1) (first_other (drop (i + 1) ws))
-other_further ws i h k = ap (λ (l : List ℕ). further i (first_other l)) (drop_more ws i 0 h) ∙ ap (further i) (cond-true (eqb (kind_of (get_or ws i 0)) 0) (option_map suc (first_other (drop (i + 1) ws))) (Some 0) (eq-eqb _ _ k)) ∙ further_suc i (first_other (drop (i + 1) ws))
+-- the place of the first word whose kind is not 0
+abbrev pub is_other : ℕ → Bool
+is_other w = not (eqb (kind_of w) 0)
 
--- at another word it is this one
-pub other_here : (ws : List ℕ) (i : ℕ) → i < length ws → (kind_of (get_or ws i 0) ≡ 0 → ⊥) → further i (first_other (drop i ws)) ≡ Some i
-other_here ws i h k = ap (λ (l : List ℕ). further i (first_other l)) (drop_more ws i 0 h) ∙ ap (further i) (cond-false (eqb (kind_of (get_or ws i 0)) 0) (option_map suc (first_other (drop (i + 1) ws))) (Some 0) (ne_eqb _ _ k)) ∙ ap (λ (n : ℕ). Some n) (omega arith)
+other_from : (n : ℕ) (ws : List ℕ) → position_from is_other n ws ≡ further n (first_other ws)
+other_from n [] = refl
+other_from n (w ∷ ws) = elim (eqb (kind_of w) 0) as (λ b. cond (not b) (Some n) (position_from is_other (n + 1) ws) ≡ further n (cond b (option_map suc (first_other ws)) (Some 0))) [ true ↦ other_from (n + 1) ws ∙ sym (further_suc n (first_other ws)) | false ↦ ap (λ (k : ℕ). Some k) (omega arith) ]
+
+pub position_other : (ws : List ℕ) → position is_other ws ≡ first_other ws
+position_other ws = position_from-zero is_other ws ∙ other_from 0 ws ∙ sym (further_zero (first_other ws))

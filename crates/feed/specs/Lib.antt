@@ -1,3 +1,5 @@
 pub mod Words
 pub mod Groups
+pub mod Heads
+pub mod Reading
 pub mod Feeding

@@ -4,7 +4,7 @@ ghost use Rattle.history.specs.Histories.{History, Lived};
 ghost use Rattle.book.specs.View.{view};
 ghost use Rattle.feed.specs.Feeding.{feeding};
 
-use crate::groups::group;
+use crate::groups::Group;
 use book::book::Book;
 use terms::fault::Fault;
 
@@ -16,12 +16,12 @@ pub fn feed(book: &mut Book, words: &[u32]) -> Result<usize, Fault>
     ensures rests { ((view book.new).number ≡ (view book.old).number) × ((view book.new).drafted ≡ (view book.old).drafted) }
 {
     let mut left = words;
-    let mut index = 0;
+    // counted by hand: slice patterns give no iterator, and one of groups would only hide `left` and the index
     let mut groups = 0;
     while let [head, rest @ ..] = left {
-        let count = group(book, *head, rest, index)?;
+        let index = words.len() - left.len();
+        let count = Group::read(index, *head, rest)?.make(book)?;
         left = &rest[count..];
-        index += 1 + count;
         groups += 1;
     }
     Ok(groups)

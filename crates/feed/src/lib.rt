@@ -8,4 +8,5 @@
 
 pub mod feed;
 mod groups;
+pub mod head;
 pub mod words;

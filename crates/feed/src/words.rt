@@ -7,17 +7,15 @@ pub fn words_of(bytes: &[u8], words: &mut [u32]) -> usize
     ensures answer { result ≡ min (length (words_of bytes.now)) (length words.old) }
     ensures after { words.new ≡ take (length words.old) (words_of bytes.now) ++ drop result words.old }
 {
-    let mut left = bytes;
-    let mut made = 0;
-    for word in words.iter_mut() {
-        let [a, b, c, d, rest @ ..] = left else {
+    let (whole, _) = bytes.as_chunks();
+    // no `zip` with the fours: nothing is proved of what an adapter of `iter_mut` wrote
+    for (made, word) in words.iter_mut().enumerate() {
+        let Some(four) = whole.get(made) else {
             return made;
         };
-        *word = u32::from_le_bytes([*a, *b, *c, *d]);
-        left = rest;
-        made += 1;
+        *word = u32::from_le_bytes(*four);
     }
-    made
+    words.len()
 }
 
 // The kind of a word, its top four bits.

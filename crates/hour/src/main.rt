@@ -17,25 +17,25 @@ use statement::fault_line::fault_line;
 use statements::print_statements;
 use std::io::Write;
 
-// The most that is read: 16,384 words of four bytes.
+// The most that is read.
 const MOST_WORDS: usize = 16_384;
 
-const MOST_BYTES: usize = 65_536;
+const MOST_BYTES: usize = 4 * MOST_WORDS;
 
 fn main(rt: HostRuntime) -> Result<(), Failure> {
-    let mut bytes = [0u8; MOST_BYTES];
-    let read = read_input(&mut rt.stdin(), &mut bytes)?;
-    let mut words = [0u32; MOST_WORDS];
-    let count = words_of(&bytes[0..read], &mut words);
+    let mut room = [0; MOST_BYTES];
+    let bytes = read_input(&mut rt.stdin(), &mut room)?;
+    let mut words = [0; MOST_WORDS];
+    let count = words_of(bytes, &mut words);
     let mut qses = [Account::new(0, 0); 64];
     let mut resources = [ResourceRow::empty(); 256];
     let mut book = Book::opened(7, &mut qses, &mut resources);
-    match feed(&mut book, &words[0..count]) {
+    match feed(&mut book, &words[..count]) {
         Ok(_) => print_statements(&mut rt.stdout(), &mut book),
         Err(fault) => {
             let mut line = [0u8; 69];
             let end = fault_line(&fault, &mut line)?;
-            rt.stdout().write_all(&line[0..end])?;
+            rt.stdout().write_all(&line[..end])?;
             Ok(())
         }
     }

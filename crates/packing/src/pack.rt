@@ -1,12 +1,14 @@
 // A group as words: a head, then its data, in the feed's order.
 ghost use Rattle.std.specs.Prelude.{◌≡◌, ◌≤◌, length};
 ghost use Rattle.terms.specs.Services.{service_number};
+ghost use Rattle.feed.specs.Heads.{kind_number};
 ghost use Rattle.packing.specs.Packing.{head_word, call_of_group, words_of_call, ReadAs};
 ghost use Rattle.packing.specs.Whole.{ReadInTurn, TakenWhole};
 
 use crate::figure::Figure;
 use crate::group::Group;
 use arrayvec::ArrayVec;
+use feed::head::Kind;
 use terms::service::Service;
 
 // The words of a group, of which none has more than twelve.
@@ -24,11 +26,10 @@ impl From<Service> for Figure {
 }
 
 // A head word: the kind in the top four bits, the value in the others.
-fn head(kind: u32, value: Figure) -> u32
-    requires kind { kind ≤ 6 }
-    ensures answer { result ≡ head_word kind value.value }
+fn head(kind: Kind, value: Figure) -> u32
+    ensures answer { result ≡ head_word (kind_number kind) value.value }
 {
-    kind * (1 << 28) + value.value
+    u32::from(kind) * (1 << 28) + value.value
 }
 
 // These words.
@@ -52,9 +53,9 @@ pub fn packed(group: &Group) -> GroupWords
     ensures whole { TakenWhole }
 {
     match *group {
-        Group::Enrol { qse, load } => words(&[head(1, qse), load.value]),
+        Group::Enrol { qse, load } => words(&[head(Kind::Enrol, qse), load.value]),
         Group::Quantities { qse, service, ten } => words(&[
-            head(2, qse),
+            head(Kind::Quantities, qse),
             Figure::from(service).value,
             ten.dasa.value,
             ten.rtsa.value,
@@ -73,7 +74,7 @@ pub fn packed(group: &Group) -> GroupWords
             class,
             told,
         } => words(&[
-            head(3, number),
+            head(Kind::Resource, number),
             qse.value,
             class.value,
             told.telemetered.up.value,
@@ -84,15 +85,15 @@ pub fn packed(group: &Group) -> GroupWords
             told.npf.value,
             told.lpc.value,
         ]),
-        Group::Strike { number } => words(&[head(4, number)]),
+        Group::Strike { number } => words(&[head(Kind::Strike, number)]),
         Group::Prices { service, prices } => words(&[
-            head(5, Figure::from(service)),
+            head(Kind::Prices, Figure::from(service)),
             prices.dam.value,
             prices.sasm.value,
             prices.rsasm.value,
         ]),
         Group::Interval { number, prices } => words(&[
-            head(6, number),
+            head(Kind::Interval, number),
             prices.rtrsvpor.value,
             prices.rtrdp.value,
         ]),

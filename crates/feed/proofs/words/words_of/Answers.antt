@@ -1,32 +1,25 @@
-use Rattle.std.proofs.Common.{◌-◌, ◌<◌, ◌≤◌, length, take, drop, refl, ◌∙◌, arith, rules}
+use Rattle.std.proofs.Common.{◌∙◌, arith}
 use lib.Seq.{set-get_or}
-use Rattle.feed.proofs.Wording.{words_more, words_none, words_step, room_step, words_end, room_end}
+use Rattle.feed.specs.Words.{words_of}
+use Rattle.feed.proofs.Wording.{words_count, word_at, words_step, words_end}
 use Rattle.feed.proofs.words.words_of.Goals as goal
 
-pub loop-word-init : goal.loop-word-init
-loop-word-init c = (refl, refl, refl)
+pub loop-made-preserved : goal.loop-made-preserved
+loop-made-preserved c =
+    let bytes = c.args.bytes.now in
+    let whole = c.as_chunks.result.0.now in
+    let i = c.loop-made.made in
+    let found = c.in-Some.ensures.lookup.3 in
+    let count = words_count bytes whole c.as_chunks.ensures.front in
+    let word = word_at bytes c.in-Some.four.now whole i c.as_chunks.ensures.front found.0 found.1 in
+    record {
+      some = omega (arith, count, found.0);
+      written = words_step (words_of bytes) c.args.words.now c.loop-made.words i c.from_le_bytes.result c.loop-made.invariant.written c.loop-made.auto.words (omega (arith, count, found.0)) c.loop-made-test.true (c.from_le_bytes.ensures ∙ word);
+    }
 
 pub returns-in_default : goal.returns-in_default
 returns-in_default c =
-    let left = c.loop-word.left.now in
-    let i = c.loop-word.word-index in
-    let ws = c.loop-word.words in
-    let few : length left < 4 = search rules in
-    let e = words_end c.args.bytes.now left c.loop-word.made i c.args.words.now ws c.loop-word.invariant.0 c.loop-word.auto.words (omega arith) c.loop-word.invariant.1 (words_none left few) c.loop-word.invariant.2 in
-    record { answer = e.0; after = set-get_or ws i 0 ∙ e.1 }
-
-pub loop-word-preserved : goal.loop-word-preserved
-loop-word-preserved c =
-    let left = c.loop-word.left.now in
-    let rest = take (length left - 4) (drop 4 left) in
-    let i = c.loop-word.word-index in
-    let w = c.from_le_bytes.result in
-    let ws = c.loop-word.words in
-    let enough : 4 ≤ length left = search rules in
-    (omega (arith, c.loop-word.invariant.0), words_step c.args.bytes.now left rest i w ws (omega arith) c.loop-word.invariant.1 (words_more left w enough c.from_le_bytes.ensures), room_step i w c.args.words.now ws c.loop-word.invariant.2)
-
-pub returns : goal.returns
-returns c =
-    let i = c.loop-word.word-index in
-    let e = room_end c.args.bytes.now c.loop-word.left.now c.loop-word.made i c.args.words.now c.loop-word.words c.loop-word.invariant.0 c.loop-word.auto.words (omega arith) (omega arith) c.loop-word.invariant.1 in
-    record { answer = e.0; after = e.1 }
+    let i = c.loop-made.made in
+    let count = words_count c.args.bytes.now c.as_chunks.result.0.now c.as_chunks.ensures.front in
+    let e = words_end (words_of c.args.bytes.now) c.args.words.now c.loop-made.words i c.loop-made.invariant.written c.loop-made.invariant.some (omega (arith, count, c.in_default.ensures.lookup.3)) (omega arith) in
+    record { answer = e.0; after = set-get_or c.loop-made.words i 0 ∙ e.1 }

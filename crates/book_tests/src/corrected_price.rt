@@ -1,10 +1,10 @@
 // Prices that are corrected after the statement: a restatement has the difference, up or down.
-use crate::drafts::issue_under;
 use crate::sample::{CAPACITY, REG_DOWN, STATED, sample_hour};
 use crate::shown::{billed, check_lines};
 use book::book::Book;
 use editions::before_nprr1149::BeforeNprr1149;
 use history::account::Account;
+use issuing::issue_under;
 use market::prices::BareServicePrices;
 use market::resource::ResourceRow;
 use std::test::Fail;

@@ -34,13 +34,6 @@ pub(crate) fn drop_open(book: &mut Book, draft: Draft)
     }
 }
 
-// Takes a draft under an edition and issues it at once.
-pub(crate) fn issue_under<E: Edition>(book: &mut Book, edition: &E) -> Result<(), Refusal> {
-    let draft = draft_under(book, edition)?;
-    issue_open(book, draft);
-    Ok(())
-}
-
 // Takes a draft under an edition and drops it at once.
 pub(crate) fn drop_under<E: Edition>(book: &mut Book, edition: &E) -> Result<(), Refusal> {
     let draft = draft_under(book, edition)?;

@@ -1,12 +1,12 @@
 // A book with every slot taken.
-use crate::checks::{agree, holds};
-use crate::drafts::issue_under;
 use crate::sample::{CAPACITY, FAILED, REAL_TIME, TELEMETERED};
 use crate::shown::{billed, totals};
 use book::book::Book;
+use checks::{agree, holds};
 use editions::before_nprr1149::BeforeNprr1149;
 use editions::nprr1196::Nprr1196;
 use history::account::Account;
+use issuing::issue_under;
 use market::quantities::BareQuantities;
 use market::resource::ResourceRow;
 use std::test::Fail;

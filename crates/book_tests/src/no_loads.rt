@@ -1,10 +1,10 @@
 // An hour in which nobody had load: charges stand, and are credited to nobody.
-use crate::drafts::issue_under;
 use crate::sample::sample_hour;
 use crate::shown::{billed, check_lines};
 use book::book::Book;
 use editions::before_nprr1149::BeforeNprr1149;
 use history::account::Account;
+use issuing::issue_under;
 use market::resource::ResourceRow;
 use std::test::Fail;
 use terms::refusal::Refusal;

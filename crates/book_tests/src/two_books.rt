@@ -1,31 +1,27 @@
 // Drafts in two books: a draft carries its book's number alone.
-use crate::checks::agree;
+ghost use Rattle.book.specs.View.{HandsBack};
+
 use crate::drafts::{draft_under, issue_open};
 use crate::sample::{STATED, sample_hour};
 use crate::shown::{check_lines, fingerprint};
 use book::book::Book;
+use book::draft::Draft;
+use checks::agree;
 use editions::before_nprr1149::BeforeNprr1149;
 use history::account::Account;
 use market::resource::ResourceRow;
 use std::test::Fail;
 use terms::refusal::Refusal;
 
-// What another book says to the issue of this book's draft; one that it hands back is issued here.
-fn issued_elsewhere(own: &mut Book, other: &mut Book) -> Result<Option<Refusal>, Refusal> {
+// What another book says to an issue or a drop of this book's draft; one that it hands back is issued here.
+fn ended_elsewhere<F>(own: &mut Book, end: F) -> Result<Option<Refusal>, Refusal>
+where
+    F: FnOnce(Draft) -> Result<(), (Refusal, Draft)>,
+    requires callable { F.IsAlwaysCallable end }
+    requires back { (draft : _) (answer : _) → F.post end draft answer → HandsBack draft answer }
+{
     let draft = draft_under(own, &BeforeNprr1149)?;
-    match other.issue(draft) {
-        Ok(()) => Ok(None),
-        Err((refusal, back)) => {
-            issue_open(own, back);
-            Ok(Some(refusal))
-        }
-    }
-}
-
-// The same of a draft that is to be dropped.
-fn dropped_elsewhere(own: &mut Book, other: &mut Book) -> Result<Option<Refusal>, Refusal> {
-    let draft = draft_under(own, &BeforeNprr1149)?;
-    match other.drop(draft) {
+    match end(draft) {
         Ok(()) => Ok(None),
         Err((refusal, back)) => {
             issue_open(own, back);
@@ -49,13 +45,13 @@ fn previewed_elsewhere(
 fn check_refused(own: &mut Book, other: &mut Book, refusal: Refusal) -> Result<(), Fail> {
     let before = fingerprint(other);
     agree(
-        issued_elsewhere(own, other)?,
+        ended_elsewhere(own, |draft| other.issue(draft))?,
         Some(refusal),
         "issued elsewhere",
     )?;
     check_lines(own, STATED)?;
     agree(
-        dropped_elsewhere(own, other)?,
+        ended_elsewhere(own, |draft| other.drop(draft))?,
         Some(refusal),
         "dropped elsewhere",
     )?;

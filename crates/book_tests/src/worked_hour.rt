@@ -1,5 +1,4 @@
 // The sample hour under the three editions, one after the other.
-use crate::drafts::issue_under;
 use crate::sample::{STATED, sample_hour};
 use crate::shown::{billed, check_lines};
 use book::book::Book;
@@ -7,6 +6,7 @@ use editions::before_nprr1149::BeforeNprr1149;
 use editions::nprr1149::Nprr1149;
 use editions::nprr1196::Nprr1196;
 use history::account::Account;
+use issuing::issue_under;
 use market::resource::ResourceRow;
 use std::test::Fail;
 use terms::refusal::Refusal;

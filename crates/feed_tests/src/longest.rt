@@ -1,12 +1,13 @@
 // The longest lines: 64 QSEs of six digits, each charged the most in every service, and all of it taken back.
 ghost use Rattle.feed_tests.specs.Greatest.{greatest};
 
-use crate::checks::{agree, holds};
-use crate::printed::{fingerprint, issue_under};
+use crate::printed::fingerprint;
 use book::book::Book;
+use checks::{agree, holds};
 use editions::before_nprr1149::BeforeNprr1149;
 use editions::edition::Edition;
 use history::account::Account;
+use issuing::issue_under;
 use market::figures::Figures;
 use market::prices::Prices;
 use market::quantities::Quantities;

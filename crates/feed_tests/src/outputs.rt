@@ -1,11 +1,11 @@
 // Where texts go: before any issue, into outputs of every length around the text's own, and a fault's line likewise.
-use crate::checks::agree;
 use crate::feeds::SAMPLE;
-use crate::printed::issue_under;
 use book::book::Book;
+use checks::agree;
 use editions::before_nprr1149::BeforeNprr1149;
 use feed::feed::feed;
 use history::account::Account;
+use issuing::issue_under;
 use market::resource::ResourceRow;
 use statement::fault_line::fault_line;
 use statement::length::length;

@@ -5,8 +5,7 @@ use crate::shown::{billed, check_lines};
 use book::book::Book;
 use book::draft::Draft;
 use editions::before_nprr1149::BeforeNprr1149;
-use history::account::Account;
-use market::resource::ResourceRow;
+use running::slots::Slots;
 use std::test::Fail;
 use terms::refusal::Refusal;
 
@@ -51,9 +50,8 @@ fn dropped(book: &mut Book) -> Result<([Previewed; 2], [Previewed; 4]), Refusal>
 
 #[test]
 fn preview(rt: HostRuntime) -> Result<(), Fail> {
-    let mut qses = [Account::new(0, 0); 64];
-    let mut resources = [ResourceRow::empty(); 256];
-    let mut book = Book::opened(7, &mut qses, &mut resources);
+    let mut slots = Slots::<64, 256>::empty();
+    let mut book = slots.open(7);
     sample_hour(&mut book)?;
     let previewed = issued(&mut book)?;
     assert_eq!(rt; previewed, [Ok(STATED[0]), Ok(STATED[1])]);
@@ -66,9 +64,8 @@ fn preview(rt: HostRuntime) -> Result<(), Fail> {
 
 #[test]
 fn dropped_draft(rt: HostRuntime) -> Result<(), Fail> {
-    let mut qses = [Account::new(0, 0); 64];
-    let mut resources = [ResourceRow::empty(); 256];
-    let mut book = Book::opened(7, &mut qses, &mut resources);
+    let mut slots = Slots::<64, 256>::empty();
+    let mut book = slots.open(7);
     sample_hour(&mut book)?;
     drop_under(&mut book, &BeforeNprr1149)?;
     check_lines(&book, [(0, 0), (0, 0)])?;

@@ -10,9 +10,8 @@ use book::book::Book;
 use checks::agree;
 use editions::before_nprr1149::BeforeNprr1149;
 use editions::nprr1149::Nprr1149;
-use history::account::Account;
-use issuing::issue_under;
-use market::resource::ResourceRow;
+use running::issuing::issue_under;
+use running::slots::Slots;
 use std::test::Fail;
 use terms::refusal::Refusal;
 
@@ -52,9 +51,8 @@ fn check_refused(book: &mut Book) -> Result<(), Fail> {
 #[test]
 fn refused_calls(rt: HostRuntime) -> Result<(), Fail> {
     // as many slots as the sample hour takes
-    let mut qses = [Account::new(0, 0); 2];
-    let mut resources = [ResourceRow::empty(); 1];
-    let mut book = Book::opened(7, &mut qses, &mut resources);
+    let mut slots = Slots::<2, 1>::empty();
+    let mut book = slots.open(7);
     sample_hour(&mut book)?;
     issue_under(&mut book, &BeforeNprr1149)?;
     check_refused(&mut book)?;
@@ -93,9 +91,8 @@ fn while_drafted(book: &mut Book) -> Result<(bool, Refusal), Refusal> {
 
 #[test]
 fn refused_while_drafted(rt: HostRuntime) -> Result<(), Fail> {
-    let mut qses = [Account::new(0, 0); 64];
-    let mut resources = [ResourceRow::empty(); 256];
-    let mut book = Book::opened(7, &mut qses, &mut resources);
+    let mut slots = Slots::<64, 256>::empty();
+    let mut book = slots.open(7);
     sample_hour(&mut book)?;
     let (refused, second) = while_drafted(&mut book)?;
     assert!(rt; refused);

@@ -8,8 +8,7 @@ use book::book::Book;
 use book::draft::Draft;
 use checks::agree;
 use editions::before_nprr1149::BeforeNprr1149;
-use history::account::Account;
-use market::resource::ResourceRow;
+use running::slots::Slots;
 use std::test::Fail;
 use terms::refusal::Refusal;
 
@@ -66,13 +65,11 @@ fn check_refused(own: &mut Book, other: &mut Book, refusal: Refusal) -> Result<(
 
 // Two books of the sample hour with these numbers.
 fn check_two_books(own: u32, other: u32, refusal: Refusal) -> Result<(), Fail> {
-    let mut qses = [Account::new(0, 0); 2];
-    let mut resources = [ResourceRow::empty(); 1];
-    let mut own = Book::opened(own, &mut qses, &mut resources);
+    let mut slots = Slots::<2, 1>::empty();
+    let mut own = slots.open(own);
     sample_hour(&mut own)?;
-    let mut qses = [Account::new(0, 0); 2];
-    let mut resources = [ResourceRow::empty(); 1];
-    let mut other = Book::opened(other, &mut qses, &mut resources);
+    let mut slots = Slots::<2, 1>::empty();
+    let mut other = slots.open(other);
     sample_hour(&mut other)?;
     check_refused(&mut own, &mut other, refusal)
 }
@@ -113,13 +110,11 @@ fn exchanged(one: &mut Book, two: &mut Book) -> Result<bool, Refusal> {
 // A draft serves any book of its number that has one open.
 #[test]
 fn same_number(rt: HostRuntime) -> Result<(), Fail> {
-    let mut qses = [Account::new(0, 0); 2];
-    let mut resources = [ResourceRow::empty(); 1];
-    let mut one = Book::opened(7, &mut qses, &mut resources);
+    let mut slots = Slots::<2, 1>::empty();
+    let mut one = slots.open(7);
     sample_hour(&mut one)?;
-    let mut qses = [Account::new(0, 0); 2];
-    let mut resources = [ResourceRow::empty(); 1];
-    let mut two = Book::opened(7, &mut qses, &mut resources);
+    let mut slots = Slots::<2, 1>::empty();
+    let mut two = slots.open(7);
     sample_hour(&mut two)?;
     assert!(rt; exchanged(&mut one, &mut two)?);
     check_lines(&one, STATED)?;

@@ -6,8 +6,7 @@ use arrayvec::{ArrayVec, CapacityError};
 use book::book::Book;
 use checks::draws::Draws;
 use feed::feed::feed;
-use history::account::Account;
-use market::resource::ResourceRow;
+use running::slots::Slots;
 use std::test::Fail;
 use terms::fault::{Fault, Layer};
 use terms::refusal::Refusal;
@@ -118,9 +117,8 @@ const NO_SLOT: Fault = Fault {
 fn full_feed(rt: HostRuntime) -> Result<(), Fail> {
     let greatest = greatest_feed()?;
     assert_eq!(rt; greatest.words.len(), 16_384);
-    let mut qses = [Account::new(0, 0); 64];
-    let mut resources = [ResourceRow::empty(); 256];
-    let mut book = Book::opened(7, &mut qses, &mut resources);
+    let mut slots = Slots::<64, 256>::empty();
+    let mut book = slots.open(7);
     let mut out = [0u8; 36_900];
     let end = printed(&mut book, greatest.words.as_slice(), &mut out)?;
     assert!(rt; end <= 36_900);

@@ -6,13 +6,12 @@ use book::book::Book;
 use checks::{agree, holds};
 use editions::before_nprr1149::BeforeNprr1149;
 use editions::edition::Edition;
-use history::account::Account;
-use issuing::issue_under;
 use market::figures::Figures;
 use market::prices::Prices;
 use market::quantities::Quantities;
-use market::resource::ResourceRow;
 use market::units::{Cents, SignedTenths};
+use running::issuing::issue_under;
+use running::slots::Slots;
 use statement::length::length;
 use statement::statement::text;
 use std::test::Fail;
@@ -89,9 +88,8 @@ const UNTOUCHED: u64 = 1337472417662314313;
 
 #[test]
 fn longest() -> Result<(), Fail> {
-    let mut qses = [Account::new(0, 0); 64];
-    let mut resources = [ResourceRow::empty(); 256];
-    let mut book = Book::opened(4_294_967_295, &mut qses, &mut resources);
+    let mut slots = Slots::<64, 256>::empty();
+    let mut book = slots.open(4_294_967_295);
     enrol_all(&mut book)?;
     issue_under(&mut book, &Greatest)?;
     check_text(&book, 11252, 11975713403484959175, &mut [7; 12_300])?;

@@ -6,7 +6,7 @@ use editions::edition::Edition;
 use editions::nprr1149::Nprr1149;
 use editions::nprr1196::Nprr1196;
 use feed::feed::feed;
-use issuing::issue_under;
+use running::issuing::issue_under;
 use statement::fault_line::fault_line;
 use statement::statement::text;
 use std::test::Fail;

@@ -4,8 +4,7 @@ use book::book::Book;
 use checks::agree;
 use editions::nprr1149::Nprr1149;
 use feed::feed::feed;
-use history::account::Account;
-use market::resource::ResourceRow;
+use running::slots::Slots;
 use std::test::Fail;
 
 // what is fed before each statement, and how many groups that is
@@ -65,9 +64,8 @@ fn stated(book: &mut Book, out: &mut [u8]) -> Result<usize, Fail> {
 
 #[test]
 fn restated(rt: HostRuntime) -> Result<(), Fail> {
-    let mut qses = [Account::new(0, 0); 64];
-    let mut resources = [ResourceRow::empty(); 256];
-    let mut book = Book::opened(7, &mut qses, &mut resources);
+    let mut slots = Slots::<64, 256>::empty();
+    let mut book = slots.open(7);
     let mut out = [0u8; 1_000];
     let end = stated(&mut book, &mut out)?;
     assert!(rt; end <= 1_000);

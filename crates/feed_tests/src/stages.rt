@@ -3,17 +3,15 @@ use crate::feeds::SAMPLE;
 use book::book::Book;
 use editions::before_nprr1149::BeforeNprr1149;
 use feed::feed::feed;
-use history::account::Account;
-use market::resource::ResourceRow;
+use running::slots::Slots;
 use std::test::Fail;
 use terms::fault::{Fault, Layer};
 use terms::refusal::Refusal;
 
 #[test]
 fn earlier_groups_stay(rt: HostRuntime) {
-    let mut qses = [Account::new(0, 0); 64];
-    let mut resources = [ResourceRow::empty(); 256];
-    let mut book = Book::opened(7, &mut qses, &mut resources);
+    let mut slots = Slots::<64, 256>::empty();
+    let mut book = slots.open(7);
     let fault = Fault {
         refusal: Refusal::UnknownHead,
         layer: Layer::Words,
@@ -41,9 +39,8 @@ fn fed_while_drafted(book: &mut Book) -> Result<Result<usize, Fault>, Refusal> {
 
 #[test]
 fn rows_rest_while_drafted(rt: HostRuntime) -> Result<(), Fail> {
-    let mut qses = [Account::new(0, 0); 64];
-    let mut resources = [ResourceRow::empty(); 256];
-    let mut book = Book::opened(7, &mut qses, &mut resources);
+    let mut slots = Slots::<64, 256>::empty();
+    let mut book = slots.open(7);
     let fault = Fault {
         refusal: Refusal::DraftOpen,
         layer: Layer::Book,

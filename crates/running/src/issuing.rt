@@ -1,10 +1,8 @@
-// A statement issued at once, for those that look at no draft.
-#![tactic(auto)]
-
+// A statement issued at once, for callers that look at no draft.
 ghost use Rattle.std.specs.Prelude.{◌≡◌};
 ghost use Rattle.history.specs.Calls.{answer as answer_of, draft as draft_call};
 ghost use Rattle.book.specs.View.{view, said};
-ghost use Rattle.issuing.specs.Issued.{issued_under};
+ghost use Rattle.running.specs.Issued.{issued_under};
 
 use book::book::Book;
 use editions::edition::Edition;

@@ -70,6 +70,7 @@ fn all_rest<I: Iterator<Item = Setting> + Drop>(book: &mut Book, settings: I) ->
     requires ends { IsFinite (I.remaining settings) }
     ensures rests { Rests book.old book.new }
 {
+    // no fold: what its closure leaves of the book stays an open goal (`returns`)
     let mut rest = true;
     for setting in settings {
         rest &= set(book, setting) == Err(Refusal::DraftOpen);

@@ -42,8 +42,8 @@ impl Edition for Greatest {
 }
 
 fn enrol_all(book: &mut Book) -> Result<(), Refusal> {
-    for k in 0..64u32 {
-        book.enrol(999_936 + k, 20_000)?;
+    for qse in 999_936..1_000_000u32 {
+        book.enrol(qse, 20_000)?;
     }
     Ok(())
 }

@@ -1,5 +1,5 @@
 // A preview says what the issue then states; a dropped draft states nothing.
-use crate::drafts::{draft_under, drop_open, drop_under, issue_open};
+use crate::drafts::{drop_open, drop_under, issue_open};
 use crate::sample::{STATED, sample_hour};
 use crate::shown::{billed, check_lines};
 use book::book::Book;
@@ -34,14 +34,14 @@ fn asked_wrongly(book: &Book, draft: &Draft) -> [Previewed; 4] {
 }
 
 fn issued(book: &mut Book) -> Result<[Previewed; 2], Refusal> {
-    let draft = draft_under(book, &BeforeNprr1149)?;
+    let draft = book.draft(&BeforeNprr1149)?;
     let previewed = both_qses(book, &draft);
     issue_open(book, draft);
     Ok(previewed)
 }
 
 fn dropped(book: &mut Book) -> Result<([Previewed; 2], [Previewed; 4]), Refusal> {
-    let draft = draft_under(book, &BeforeNprr1149)?;
+    let draft = book.draft(&BeforeNprr1149)?;
     let previewed = both_qses(book, &draft);
     let refused = asked_wrongly(book, &draft);
     drop_open(book, draft);

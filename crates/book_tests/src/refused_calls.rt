@@ -2,7 +2,7 @@
 ghost use Rattle.std.specs.Iterator.{IsFinite};
 ghost use Rattle.book_tests.specs.Open.{Rests};
 
-use crate::drafts::{draft_under, issue_open, second_draft};
+use crate::drafts::{issue_open, second_draft};
 use crate::sample::{STATED, sample_hour};
 use crate::settings::{LAWFUL, REFUSED, Setting, set};
 use crate::shown::{billed, check_lines, fingerprint};
@@ -80,7 +80,7 @@ fn all_rest<I: Iterator<Item = Setting> + Drop>(book: &mut Book, settings: I) ->
 
 // Whether every call was refused while the draft was open and left the accounts, and the refusal of a second draft.
 fn while_drafted(book: &mut Book) -> Result<(bool, Refusal), Refusal> {
-    let draft = draft_under(book, &BeforeNprr1149)?;
+    let draft = book.draft(&BeforeNprr1149)?;
     let before = fingerprint(book);
     let lawful = all_rest(book, LAWFUL.into_iter());
     let faulty = all_rest(book, REFUSED.into_iter().map(|(setting, _)| setting));

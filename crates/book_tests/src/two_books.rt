@@ -1,7 +1,7 @@
 // Drafts in two books: a draft carries its book's number alone.
 ghost use Rattle.book.specs.View.{HandsBack};
 
-use crate::drafts::{draft_under, issue_open};
+use crate::drafts::issue_open;
 use crate::sample::{STATED, sample_hour};
 use crate::shown::{check_lines, fingerprint};
 use book::book::Book;
@@ -19,7 +19,7 @@ where
     requires callable { F.IsAlwaysCallable end }
     requires back { (draft : _) (answer : _) → F.post end draft answer → HandsBack draft answer }
 {
-    let draft = draft_under(own, &BeforeNprr1149)?;
+    let draft = own.draft(&BeforeNprr1149)?;
     match end(draft) {
         Ok(()) => Ok(None),
         Err((refusal, back)) => {
@@ -34,7 +34,7 @@ fn previewed_elsewhere(
     own: &mut Book,
     other: &Book,
 ) -> Result<Result<(i64, i64), Refusal>, Refusal> {
-    let draft = draft_under(own, &BeforeNprr1149)?;
+    let draft = own.draft(&BeforeNprr1149)?;
     let previewed = other.preview(&draft, 10, 'D');
     issue_open(own, draft);
     Ok(previewed)
@@ -87,8 +87,8 @@ fn no_draft_open() -> Result<(), Fail> {
 
 // Each book issues the other's draft, if it takes it; whether both did.
 fn exchanged(one: &mut Book, two: &mut Book) -> Result<bool, Refusal> {
-    let first = draft_under(one, &BeforeNprr1149)?;
-    match draft_under(two, &BeforeNprr1149) {
+    let first = one.draft(&BeforeNprr1149)?;
+    match two.draft(&BeforeNprr1149) {
         Err(refusal) => {
             issue_open(one, first);
             Err(refusal)

@@ -1,12 +1,11 @@
 // Prices that are corrected after the statement: a restatement has the difference, up or down.
-use crate::drafts::issue_under;
 use crate::sample::{CAPACITY, REG_DOWN, STATED, sample_hour};
 use crate::shown::{billed, check_lines};
 use book::book::Book;
 use editions::before_nprr1149::BeforeNprr1149;
-use history::account::Account;
 use market::prices::BareServicePrices;
-use market::resource::ResourceRow;
+use running::issuing::issue_under;
+use running::slots::Slots;
 use std::test::Fail;
 use terms::refusal::Refusal;
 
@@ -43,9 +42,8 @@ fn restate(book: &mut Book, sasm: u32) -> Result<(), Refusal> {
 
 #[test]
 fn corrected_price(rt: HostRuntime) -> Result<(), Fail> {
-    let mut qses = [Account::new(0, 0); 64];
-    let mut resources = [ResourceRow::empty(); 256];
-    let mut book = Book::opened(7, &mut qses, &mut resources);
+    let mut slots = Slots::<64, 256>::empty();
+    let mut book = slots.open(7);
     sample_hour(&mut book)?;
     issue_under(&mut book, &BeforeNprr1149)?;
     check_lines(&book, STATED)?;

@@ -1,14 +1,15 @@
 // A book with every slot taken.
-use crate::checks::{agree, holds};
-use crate::drafts::issue_under;
 use crate::sample::{CAPACITY, FAILED, REAL_TIME, TELEMETERED};
 use crate::shown::{billed, totals};
 use book::book::Book;
+use checks::{agree, holds};
 use editions::before_nprr1149::BeforeNprr1149;
 use editions::nprr1196::Nprr1196;
 use history::account::Account;
 use market::quantities::BareQuantities;
 use market::resource::ResourceRow;
+use running::issuing::issue_under;
+use running::slots::Slots;
 use std::test::Fail;
 use terms::refusal::Refusal;
 
@@ -66,9 +67,8 @@ fn check_balance(book: &Book) -> Result<(), Fail> {
 #[test]
 fn full_book(rt: HostRuntime) -> Result<(), Fail> {
     // lent slots beyond 64 and 256 go unused
-    let mut qses = [Account::new(0, 0); 70];
-    let mut resources = [ResourceRow::empty(); 260];
-    let mut book = Book::opened(7, &mut qses, &mut resources);
+    let mut slots = Slots::<70, 260>::empty();
+    let mut book = slots.open(7);
     enrol_64(&mut book)?;
     enter_256(&mut book)?;
     set_prices(&mut book)?;
@@ -82,9 +82,8 @@ fn full_book(rt: HostRuntime) -> Result<(), Fail> {
 
 #[test]
 fn one_slot(rt: HostRuntime) -> Result<(), Fail> {
-    let mut qses = [Account::new(0, 0); 1];
-    let mut resources = [ResourceRow::empty(); 1];
-    let mut book = Book::opened(7, &mut qses, &mut resources);
+    let mut slots = Slots::<1, 1>::empty();
+    let mut book = slots.open(7);
     book.enrol(10, 1)?;
     book.enter(100, 10, 0, TELEMETERED)?;
     assert_eq!(rt; book.enrol(20, 1), FULL);
@@ -97,9 +96,8 @@ fn one_slot(rt: HostRuntime) -> Result<(), Fail> {
 
 #[test]
 fn no_slots(rt: HostRuntime) -> Result<(), Fail> {
-    let mut qses: [Account; 0] = [];
-    let mut resources: [ResourceRow; 0] = [];
-    let mut book = Book::opened(7, &mut qses, &mut resources);
+    let mut slots = Slots::<0, 0>::empty();
+    let mut book = slots.open(7);
     assert_eq!(rt; book.enrol(10, 1), FULL);
     issue_under(&mut book, &BeforeNprr1149)?;
     assert_eq!(rt; book.accounts().len(), 0);
@@ -109,9 +107,11 @@ fn no_slots(rt: HostRuntime) -> Result<(), Fail> {
 // What lies in the slots when they are lent is no part of the book.
 #[test]
 fn used_slots(rt: HostRuntime) {
-    let mut qses = [Account::new(10, 1); 2];
-    let mut resources = [ResourceRow::empty(); 1];
-    let mut book = Book::opened(7, &mut qses, &mut resources);
+    let mut slots = Slots {
+        qses: [Account::new(10, 1); 2],
+        resources: [ResourceRow::empty(); 1],
+    };
+    let mut book = slots.open(7);
     assert_eq!(rt; book.accounts().len(), 0);
     assert_eq!(rt; billed(&book, 10, 'D'), Err(Refusal::NotEnrolled));
     assert_eq!(rt;

@@ -2,8 +2,6 @@
 
 // Tests of the hour book from outside, in a crate of their own so that the book is proved once.
 #[cfg(test)]
-mod checks;
-#[cfg(test)]
 mod corrected_price;
 #[cfg(test)]
 mod drafts;

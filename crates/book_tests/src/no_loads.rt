@@ -1,19 +1,16 @@
 // An hour in which nobody had load: charges stand, and are credited to nobody.
-use crate::drafts::issue_under;
 use crate::sample::sample_hour;
 use crate::shown::{billed, check_lines};
-use book::book::Book;
 use editions::before_nprr1149::BeforeNprr1149;
-use history::account::Account;
-use market::resource::ResourceRow;
+use running::issuing::issue_under;
+use running::slots::Slots;
 use std::test::Fail;
 use terms::refusal::Refusal;
 
 #[test]
 fn no_loads(rt: HostRuntime) -> Result<(), Fail> {
-    let mut qses = [Account::new(0, 0); 2];
-    let mut resources = [ResourceRow::empty(); 1];
-    let mut book = Book::opened(7, &mut qses, &mut resources);
+    let mut slots = Slots::<2, 1>::empty();
+    let mut book = slots.open(7);
     sample_hour(&mut book)?;
     book.enrol(10, 0)?;
     book.enrol(20, 0)?;

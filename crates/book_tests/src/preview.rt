@@ -1,12 +1,11 @@
 // A preview says what the issue then states; a dropped draft states nothing.
-use crate::drafts::{draft_under, drop_open, drop_under, issue_open};
+use crate::drafts::{drop_open, drop_under, issue_open};
 use crate::sample::{STATED, sample_hour};
 use crate::shown::{billed, check_lines};
 use book::book::Book;
 use book::draft::Draft;
 use editions::before_nprr1149::BeforeNprr1149;
-use history::account::Account;
-use market::resource::ResourceRow;
+use running::slots::Slots;
 use std::test::Fail;
 use terms::refusal::Refusal;
 
@@ -35,14 +34,14 @@ fn asked_wrongly(book: &Book, draft: &Draft) -> [Previewed; 4] {
 }
 
 fn issued(book: &mut Book) -> Result<[Previewed; 2], Refusal> {
-    let draft = draft_under(book, &BeforeNprr1149)?;
+    let draft = book.draft(&BeforeNprr1149)?;
     let previewed = both_qses(book, &draft);
     issue_open(book, draft);
     Ok(previewed)
 }
 
 fn dropped(book: &mut Book) -> Result<([Previewed; 2], [Previewed; 4]), Refusal> {
-    let draft = draft_under(book, &BeforeNprr1149)?;
+    let draft = book.draft(&BeforeNprr1149)?;
     let previewed = both_qses(book, &draft);
     let refused = asked_wrongly(book, &draft);
     drop_open(book, draft);
@@ -51,9 +50,8 @@ fn dropped(book: &mut Book) -> Result<([Previewed; 2], [Previewed; 4]), Refusal>
 
 #[test]
 fn preview(rt: HostRuntime) -> Result<(), Fail> {
-    let mut qses = [Account::new(0, 0); 64];
-    let mut resources = [ResourceRow::empty(); 256];
-    let mut book = Book::opened(7, &mut qses, &mut resources);
+    let mut slots = Slots::<64, 256>::empty();
+    let mut book = slots.open(7);
     sample_hour(&mut book)?;
     let previewed = issued(&mut book)?;
     assert_eq!(rt; previewed, [Ok(STATED[0]), Ok(STATED[1])]);
@@ -66,9 +64,8 @@ fn preview(rt: HostRuntime) -> Result<(), Fail> {
 
 #[test]
 fn dropped_draft(rt: HostRuntime) -> Result<(), Fail> {
-    let mut qses = [Account::new(0, 0); 64];
-    let mut resources = [ResourceRow::empty(); 256];
-    let mut book = Book::opened(7, &mut qses, &mut resources);
+    let mut slots = Slots::<64, 256>::empty();
+    let mut book = slots.open(7);
     sample_hour(&mut book)?;
     drop_under(&mut book, &BeforeNprr1149)?;
     check_lines(&book, [(0, 0), (0, 0)])?;

@@ -1,16 +1,17 @@
 // Refused calls in the middle of a history: each is told by its refusal, and leaves the book as it was.
+ghost use Rattle.std.specs.Iterator.{IsFinite};
 ghost use Rattle.book_tests.specs.Open.{Rests};
 
-use crate::checks::agree;
-use crate::drafts::{draft_under, issue_open, issue_under, second_draft};
+use crate::drafts::{issue_open, second_draft};
 use crate::sample::{STATED, sample_hour};
-use crate::settings::{LAWFUL, REFUSED, set};
+use crate::settings::{LAWFUL, REFUSED, Setting, set};
 use crate::shown::{billed, check_lines, fingerprint};
 use book::book::Book;
+use checks::agree;
 use editions::before_nprr1149::BeforeNprr1149;
 use editions::nprr1149::Nprr1149;
-use history::account::Account;
-use market::resource::ResourceRow;
+use running::issuing::issue_under;
+use running::slots::Slots;
 use std::test::Fail;
 use terms::refusal::Refusal;
 
@@ -50,9 +51,8 @@ fn check_refused(book: &mut Book) -> Result<(), Fail> {
 #[test]
 fn refused_calls(rt: HostRuntime) -> Result<(), Fail> {
     // as many slots as the sample hour takes
-    let mut qses = [Account::new(0, 0); 2];
-    let mut resources = [ResourceRow::empty(); 1];
-    let mut book = Book::opened(7, &mut qses, &mut resources);
+    let mut slots = Slots::<2, 1>::empty();
+    let mut book = slots.open(7);
     sample_hour(&mut book)?;
     issue_under(&mut book, &BeforeNprr1149)?;
     check_refused(&mut book)?;
@@ -64,23 +64,15 @@ fn refused_calls(rt: HostRuntime) -> Result<(), Fail> {
     check_lines(&book, [(1_800, 600), (0, 1_200)])
 }
 
-// Whether each call that would else be taken is refused.
-fn lawful_rest(book: &mut Book) -> bool
+// Whether an open draft is told by each of these calls, before every other fault.
+fn all_rest<I: Iterator<Item = Setting> + Drop>(book: &mut Book, settings: I) -> bool
+    requires can { I.can_next settings }
+    requires ends { IsFinite (I.remaining settings) }
     ensures rests { Rests book.old book.new }
 {
+    // no fold: what its closure leaves of the book stays an open goal (`returns`)
     let mut rest = true;
-    for setting in LAWFUL {
-        rest &= set(book, setting) == Err(Refusal::DraftOpen);
-    }
-    rest
-}
-
-// Whether an open draft is told before every other fault.
-fn faulty_rest(book: &mut Book) -> bool
-    ensures rests { Rests book.old book.new }
-{
-    let mut rest = true;
-    for (setting, _) in REFUSED {
+    for setting in settings {
         rest &= set(book, setting) == Err(Refusal::DraftOpen);
     }
     rest
@@ -88,10 +80,10 @@ fn faulty_rest(book: &mut Book) -> bool
 
 // Whether every call was refused while the draft was open and left the accounts, and the refusal of a second draft.
 fn while_drafted(book: &mut Book) -> Result<(bool, Refusal), Refusal> {
-    let draft = draft_under(book, &BeforeNprr1149)?;
+    let draft = book.draft(&BeforeNprr1149)?;
     let before = fingerprint(book);
-    let lawful = lawful_rest(book);
-    let faulty = faulty_rest(book);
+    let lawful = all_rest(book, LAWFUL.into_iter());
+    let faulty = all_rest(book, REFUSED.into_iter().map(|(setting, _)| setting));
     let second = second_draft(book, &BeforeNprr1149);
     let same = fingerprint(book) == before;
     issue_open(book, draft);
@@ -100,9 +92,8 @@ fn while_drafted(book: &mut Book) -> Result<(bool, Refusal), Refusal> {
 
 #[test]
 fn refused_while_drafted(rt: HostRuntime) -> Result<(), Fail> {
-    let mut qses = [Account::new(0, 0); 64];
-    let mut resources = [ResourceRow::empty(); 256];
-    let mut book = Book::opened(7, &mut qses, &mut resources);
+    let mut slots = Slots::<64, 256>::empty();
+    let mut book = slots.open(7);
     sample_hour(&mut book)?;
     let (refused, second) = while_drafted(&mut book)?;
     assert!(rt; refused);

@@ -8,6 +8,8 @@ use market::prices::{BareIntervalPrices, BareServicePrices};
 use market::quantities::BareQuantities;
 use terms::refusal::Refusal;
 
+// Not a table of functions: a pointer to one that takes a `&mut Book` is refused ("the type of the parameter `call` is
+// not supported"), since a book holds loans.
 #[derive(Clone, Copy)]
 pub(crate) enum Setting {
     Enrol(u32, u32),

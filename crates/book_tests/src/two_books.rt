@@ -1,31 +1,26 @@
 // Drafts in two books: a draft carries its book's number alone.
-use crate::checks::agree;
-use crate::drafts::{draft_under, issue_open};
+ghost use Rattle.book.specs.View.{HandsBack};
+
+use crate::drafts::issue_open;
 use crate::sample::{STATED, sample_hour};
 use crate::shown::{check_lines, fingerprint};
 use book::book::Book;
+use book::draft::Draft;
+use checks::agree;
 use editions::before_nprr1149::BeforeNprr1149;
-use history::account::Account;
-use market::resource::ResourceRow;
+use running::slots::Slots;
 use std::test::Fail;
 use terms::refusal::Refusal;
 
-// What another book says to the issue of this book's draft; one that it hands back is issued here.
-fn issued_elsewhere(own: &mut Book, other: &mut Book) -> Result<Option<Refusal>, Refusal> {
-    let draft = draft_under(own, &BeforeNprr1149)?;
-    match other.issue(draft) {
-        Ok(()) => Ok(None),
-        Err((refusal, back)) => {
-            issue_open(own, back);
-            Ok(Some(refusal))
-        }
-    }
-}
-
-// The same of a draft that is to be dropped.
-fn dropped_elsewhere(own: &mut Book, other: &mut Book) -> Result<Option<Refusal>, Refusal> {
-    let draft = draft_under(own, &BeforeNprr1149)?;
-    match other.drop(draft) {
+// What another book says to an issue or a drop of this book's draft; one that it hands back is issued here.
+fn ended_elsewhere<F>(own: &mut Book, end: F) -> Result<Option<Refusal>, Refusal>
+where
+    F: FnOnce(Draft) -> Result<(), (Refusal, Draft)>,
+    requires callable { F.IsAlwaysCallable end }
+    requires back { (draft : _) (answer : _) → F.post end draft answer → HandsBack draft answer }
+{
+    let draft = own.draft(&BeforeNprr1149)?;
+    match end(draft) {
         Ok(()) => Ok(None),
         Err((refusal, back)) => {
             issue_open(own, back);
@@ -39,7 +34,7 @@ fn previewed_elsewhere(
     own: &mut Book,
     other: &Book,
 ) -> Result<Result<(i64, i64), Refusal>, Refusal> {
-    let draft = draft_under(own, &BeforeNprr1149)?;
+    let draft = own.draft(&BeforeNprr1149)?;
     let previewed = other.preview(&draft, 10, 'D');
     issue_open(own, draft);
     Ok(previewed)
@@ -49,13 +44,13 @@ fn previewed_elsewhere(
 fn check_refused(own: &mut Book, other: &mut Book, refusal: Refusal) -> Result<(), Fail> {
     let before = fingerprint(other);
     agree(
-        issued_elsewhere(own, other)?,
+        ended_elsewhere(own, |draft| other.issue(draft))?,
         Some(refusal),
         "issued elsewhere",
     )?;
     check_lines(own, STATED)?;
     agree(
-        dropped_elsewhere(own, other)?,
+        ended_elsewhere(own, |draft| other.drop(draft))?,
         Some(refusal),
         "dropped elsewhere",
     )?;
@@ -70,13 +65,11 @@ fn check_refused(own: &mut Book, other: &mut Book, refusal: Refusal) -> Result<(
 
 // Two books of the sample hour with these numbers.
 fn check_two_books(own: u32, other: u32, refusal: Refusal) -> Result<(), Fail> {
-    let mut qses = [Account::new(0, 0); 2];
-    let mut resources = [ResourceRow::empty(); 1];
-    let mut own = Book::opened(own, &mut qses, &mut resources);
+    let mut slots = Slots::<2, 1>::empty();
+    let mut own = slots.open(own);
     sample_hour(&mut own)?;
-    let mut qses = [Account::new(0, 0); 2];
-    let mut resources = [ResourceRow::empty(); 1];
-    let mut other = Book::opened(other, &mut qses, &mut resources);
+    let mut slots = Slots::<2, 1>::empty();
+    let mut other = slots.open(other);
     sample_hour(&mut other)?;
     check_refused(&mut own, &mut other, refusal)
 }
@@ -94,8 +87,8 @@ fn no_draft_open() -> Result<(), Fail> {
 
 // Each book issues the other's draft, if it takes it; whether both did.
 fn exchanged(one: &mut Book, two: &mut Book) -> Result<bool, Refusal> {
-    let first = draft_under(one, &BeforeNprr1149)?;
-    match draft_under(two, &BeforeNprr1149) {
+    let first = one.draft(&BeforeNprr1149)?;
+    match two.draft(&BeforeNprr1149) {
         Err(refusal) => {
             issue_open(one, first);
             Err(refusal)
@@ -117,13 +110,11 @@ fn exchanged(one: &mut Book, two: &mut Book) -> Result<bool, Refusal> {
 // A draft serves any book of its number that has one open.
 #[test]
 fn same_number(rt: HostRuntime) -> Result<(), Fail> {
-    let mut qses = [Account::new(0, 0); 2];
-    let mut resources = [ResourceRow::empty(); 1];
-    let mut one = Book::opened(7, &mut qses, &mut resources);
+    let mut slots = Slots::<2, 1>::empty();
+    let mut one = slots.open(7);
     sample_hour(&mut one)?;
-    let mut qses = [Account::new(0, 0); 2];
-    let mut resources = [ResourceRow::empty(); 1];
-    let mut two = Book::opened(7, &mut qses, &mut resources);
+    let mut slots = Slots::<2, 1>::empty();
+    let mut two = slots.open(7);
     sample_hour(&mut two)?;
     assert!(rt; exchanged(&mut one, &mut two)?);
     check_lines(&one, STATED)?;

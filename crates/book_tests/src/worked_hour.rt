@@ -1,22 +1,19 @@
 // The sample hour under the three editions, one after the other.
-use crate::drafts::issue_under;
 use crate::sample::{STATED, sample_hour};
 use crate::shown::{billed, check_lines};
-use book::book::Book;
 use editions::before_nprr1149::BeforeNprr1149;
 use editions::nprr1149::Nprr1149;
 use editions::nprr1196::Nprr1196;
-use history::account::Account;
-use market::resource::ResourceRow;
+use running::issuing::issue_under;
+use running::slots::Slots;
 use std::test::Fail;
 use terms::refusal::Refusal;
 
 // Each restatement has the difference to what was stated before.
 #[test]
 fn worked_hour(rt: HostRuntime) -> Result<(), Fail> {
-    let mut qses = [Account::new(0, 0); 64];
-    let mut resources = [ResourceRow::empty(); 256];
-    let mut book = Book::opened(7, &mut qses, &mut resources);
+    let mut slots = Slots::<64, 256>::empty();
+    let mut book = slots.open(7);
     sample_hour(&mut book)?;
     issue_under(&mut book, &BeforeNprr1149)?;
     check_lines(&book, STATED)?;

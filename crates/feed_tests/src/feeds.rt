@@ -1,8 +1,6 @@
 // A table of feeds with what each prints: the sample hour, and every fault that a feed to a new book can have.
 use crate::printed::printed;
-use book::book::Book;
-use history::account::Account;
-use market::resource::ResourceRow;
+use running::slots::Slots;
 use std::test::Fail;
 
 pub(crate) const SAMPLE: [u32; 33] = [
@@ -170,9 +168,8 @@ const FEEDS: [(&[u32], &[u8]); 36] = [
 #[test]
 fn feeds(rt: HostRuntime) -> Result<(), Fail> {
     for (words, expected) in FEEDS {
-        let mut qses = [Account::new(0, 0); 64];
-        let mut resources = [ResourceRow::empty(); 256];
-        let mut book = Book::opened(7, &mut qses, &mut resources);
+        let mut slots = Slots::<64, 256>::empty();
+        let mut book = slots.open(7);
         let mut out = [0u8; 1_000];
         let end = printed(&mut book, words, &mut out)?;
         assert!(rt; end <= 1_000);

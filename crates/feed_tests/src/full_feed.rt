@@ -2,46 +2,84 @@
 ghost use Rattle.std.specs.Prelude.{◌<◌};
 
 use crate::printed::{fingerprint, printed};
+use arrayvec::{ArrayVec, CapacityError};
 use book::book::Book;
+use checks::draws::Draws;
 use feed::feed::feed;
-use history::account::Account;
-use market::resource::ResourceRow;
+use running::slots::Slots;
 use std::test::Fail;
 use terms::fault::{Fault, Layer};
 use terms::refusal::Refusal;
 
-// The words so far, and a seed for the next figure. Words that find no place are left out.
+type Pushed = Result<(), CapacityError<u32>>;
+
+// The words so far, and the draws of their figures.
 #[derive(Drop)]
 struct Words {
-    words: [u32; 16_384],
-    len: usize,
-    seed: u64,
+    words: ArrayVec<u32, 16_384>,
+    draws: Draws,
 }
 
-fn push(feed: &mut Words, word: u32) {
-    if feed.len < 16_384 {
-        feed.words[feed.len] = word;
-        feed.len += 1;
+impl Words {
+    fn push(&mut self, word: u32) -> Pushed {
+        self.words.try_push(word)
     }
-}
 
-// A figure up to this one, as the seed has it.
-fn push_figure(feed: &mut Words, most: u32)
-    requires { most < 1000000 }
-{
-    feed.seed = feed
-        .seed
-        .wrapping_mul(6_364_136_223_846_793_005)
-        .wrapping_add(1_442_695_040_888_963_407);
-    let figure = (feed.seed >> 33) % (u64::from(most) + 1);
-    push(feed, (figure & 0xf_ffff) as u32);
-}
+    // A figure up to this one.
+    fn push_figure(&mut self, most: u32) -> Pushed
+        requires { most < 1000000 }
+    {
+        let figure = self.draws.draw() % (u64::from(most) + 1);
+        self.push((figure & 0xf_ffff) as u32)
+    }
 
-fn push_figures(feed: &mut Words, count: usize, most: u32)
-    requires { most < 1000000 }
-{
-    for _ in 0..count {
-        push_figure(feed, most);
+    fn push_figures(&mut self, count: usize, most: u32) -> Pushed
+        requires { most < 1000000 }
+    {
+        for _ in 0..count {
+            self.push_figure(most)?;
+        }
+        Ok(())
+    }
+
+    fn push_enrolments(&mut self, count: u32) -> Pushed {
+        for place in 0..count {
+            self.push(0x1000_0000 | qse(place))?;
+            self.push_figure(20_000)?;
+        }
+        Ok(())
+    }
+
+    fn push_resources(&mut self) -> Pushed {
+        for place in 0..256u32 {
+            self.push(0x3000_0000 | (1 + 3_000 * place))?;
+            self.push(qse(place))?;
+            self.push(place % 3)?;
+            self.push_figures(7, 3_000)?;
+        }
+        Ok(())
+    }
+
+    // Every QSE has quantities in every service, most of them more than once.
+    fn push_quantities(&mut self) -> Pushed {
+        for place in 0..1_138u32 {
+            self.push(0x2000_0000 | qse(place))?;
+            self.push(place / 64 % 5)?;
+            self.push_figures(10, 20_000)?;
+        }
+        Ok(())
+    }
+
+    fn push_prices(&mut self) -> Pushed {
+        for service in 0..5u32 {
+            self.push(0x5000_0000 | service)?;
+            self.push_figures(3, 999_999)?;
+        }
+        for interval in 0..4u32 {
+            self.push(0x6000_0000 | interval)?;
+            self.push_figures(2, 500_000)?;
+        }
+        Ok(())
     }
 }
 
@@ -50,54 +88,17 @@ fn qse(place: u32) -> u32 {
     999_999 - 15_000 * (place % 64)
 }
 
-fn push_enrolments(feed: &mut Words, count: u32) {
-    for k in 0..count {
-        push(feed, 0x1000_0000 | qse(k));
-        push_figure(feed, 20_000);
-    }
-}
-
-fn push_resources(feed: &mut Words) {
-    for k in 0..256u32 {
-        push(feed, 0x3000_0000 | (1 + 3_000 * k));
-        push(feed, qse(k));
-        push(feed, k % 3);
-        push_figures(feed, 7, 3_000);
-    }
-}
-
-// Every QSE has quantities in every service, most of them more than once.
-fn push_quantities(feed: &mut Words) {
-    for k in 0..1_138u32 {
-        push(feed, 0x2000_0000 | qse(k));
-        push(feed, k / 64 % 5);
-        push_figures(feed, 10, 20_000);
-    }
-}
-
-fn push_prices(feed: &mut Words) {
-    for service in 0..5u32 {
-        push(feed, 0x5000_0000 | service);
-        push_figures(feed, 3, 999_999);
-    }
-    for interval in 0..4u32 {
-        push(feed, 0x6000_0000 | interval);
-        push_figures(feed, 2, 500_000);
-    }
-}
-
-fn greatest_feed() -> Words {
+fn greatest_feed() -> Result<Words, CapacityError<u32>> {
     let mut feed = Words {
-        words: [0; 16_384],
-        len: 0,
-        seed: 1,
+        words: ArrayVec::new(),
+        draws: Draws { state: 1 },
     };
-    push_enrolments(&mut feed, 64);
-    push_resources(&mut feed);
-    push_quantities(&mut feed);
-    push_enrolments(&mut feed, 4);
-    push_prices(&mut feed);
-    feed
+    feed.push_enrolments(64)?;
+    feed.push_resources()?;
+    feed.push_quantities()?;
+    feed.push_enrolments(4)?;
+    feed.push_prices()?;
+    Ok(feed)
 }
 
 // The length and the fingerprint of the three statements, as a second program reckoned them.
@@ -114,13 +115,12 @@ const NO_SLOT: Fault = Fault {
 
 #[test]
 fn full_feed(rt: HostRuntime) -> Result<(), Fail> {
-    let greatest = greatest_feed();
-    assert_eq!(rt; greatest.len, 16_384);
-    let mut qses = [Account::new(0, 0); 64];
-    let mut resources = [ResourceRow::empty(); 256];
-    let mut book = Book::opened(7, &mut qses, &mut resources);
+    let greatest = greatest_feed()?;
+    assert_eq!(rt; greatest.words.len(), 16_384);
+    let mut slots = Slots::<64, 256>::empty();
+    let mut book = slots.open(7);
     let mut out = [0u8; 36_900];
-    let end = printed(&mut book, &greatest.words, &mut out)?;
+    let end = printed(&mut book, greatest.words.as_slice(), &mut out)?;
     assert!(rt; end <= 36_900);
     assert_eq!(rt; end, LENGTH);
     assert_eq!(rt; fingerprint(&out[0..end]), FINGERPRINT);

@@ -2,8 +2,6 @@
 
 // Tests from the first word to the last byte: feeds, statements' texts and faults' lines.
 #[cfg(test)]
-mod checks;
-#[cfg(test)]
 mod feeds;
 #[cfg(test)]
 mod full_feed;

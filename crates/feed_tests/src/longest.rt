@@ -1,17 +1,17 @@
 // The longest lines: 64 QSEs of six digits, each charged the most in every service, and all of it taken back.
 ghost use Rattle.feed_tests.specs.Greatest.{greatest};
 
-use crate::checks::{agree, holds};
-use crate::printed::{fingerprint, issue_under};
+use crate::printed::fingerprint;
 use book::book::Book;
+use checks::{agree, holds};
 use editions::before_nprr1149::BeforeNprr1149;
 use editions::edition::Edition;
-use history::account::Account;
 use market::figures::Figures;
 use market::prices::Prices;
 use market::quantities::Quantities;
-use market::resource::ResourceRow;
 use market::units::{Cents, SignedTenths};
+use running::issuing::issue_under;
+use running::slots::Slots;
 use statement::length::length;
 use statement::statement::text;
 use std::test::Fail;
@@ -42,8 +42,8 @@ impl Edition for Greatest {
 }
 
 fn enrol_all(book: &mut Book) -> Result<(), Refusal> {
-    for k in 0..64u32 {
-        book.enrol(999_936 + k, 20_000)?;
+    for qse in 999_936..1_000_000u32 {
+        book.enrol(qse, 20_000)?;
     }
     Ok(())
 }
@@ -88,9 +88,8 @@ const UNTOUCHED: u64 = 1337472417662314313;
 
 #[test]
 fn longest() -> Result<(), Fail> {
-    let mut qses = [Account::new(0, 0); 64];
-    let mut resources = [ResourceRow::empty(); 256];
-    let mut book = Book::opened(4_294_967_295, &mut qses, &mut resources);
+    let mut slots = Slots::<64, 256>::empty();
+    let mut book = slots.open(4_294_967_295);
     enrol_all(&mut book)?;
     issue_under(&mut book, &Greatest)?;
     check_text(&book, 11252, 11975713403484959175, &mut [7; 12_300])?;

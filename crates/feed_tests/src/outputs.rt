@@ -1,12 +1,11 @@
 // Where texts go: before any issue, into outputs of every length around the text's own, and a fault's line likewise.
-use crate::checks::agree;
 use crate::feeds::SAMPLE;
-use crate::printed::issue_under;
 use book::book::Book;
+use checks::agree;
 use editions::before_nprr1149::BeforeNprr1149;
 use feed::feed::feed;
-use history::account::Account;
-use market::resource::ResourceRow;
+use running::issuing::issue_under;
+use running::slots::Slots;
 use statement::fault_line::fault_line;
 use statement::length::length;
 use statement::statement::text;
@@ -27,9 +26,8 @@ const FAULT: Fault = Fault {
 
 #[test]
 fn before_any_issue(rt: HostRuntime) {
-    let mut qses = [Account::new(0, 0); 64];
-    let mut resources = [ResourceRow::empty(); 256];
-    let mut book = Book::opened(7, &mut qses, &mut resources);
+    let mut slots = Slots::<64, 256>::empty();
+    let mut book = slots.open(7);
     assert_eq!(rt; feed(&mut book, &SAMPLE), Ok(6));
     let mut out = [7u8; 3];
     assert_eq!(rt; text(&book, &mut out), Err(Refusal::NothingIssued));
@@ -84,9 +82,8 @@ fn check_line(room: usize, out: &mut [u8]) -> Result<(), Fail> {
 
 #[test]
 fn every_room(rt: HostRuntime) -> Result<(), Fail> {
-    let mut qses = [Account::new(0, 0); 64];
-    let mut resources = [ResourceRow::empty(); 256];
-    let mut book = Book::opened(7, &mut qses, &mut resources);
+    let mut slots = Slots::<64, 256>::empty();
+    let mut book = slots.open(7);
     assert_eq!(rt; feed(&mut book, &SAMPLE), Ok(6));
     issue_under(&mut book, &BeforeNprr1149)?;
     for room in 0..60usize {

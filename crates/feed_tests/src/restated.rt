@@ -1,11 +1,10 @@
 // An hour that is restated after a corrected price and after corrected telemetry, worked by hand in docs/WORKED.md.
-use crate::checks::agree;
 use crate::printed::add_statement;
 use book::book::Book;
+use checks::agree;
 use editions::nprr1149::Nprr1149;
 use feed::feed::feed;
-use history::account::Account;
-use market::resource::ResourceRow;
+use running::slots::Slots;
 use std::test::Fail;
 
 // what is fed before each statement, and how many groups that is
@@ -52,21 +51,21 @@ const STAGES: [(&[u32], usize); 3] = [
 const PRINTED: &[u8] =
     b"book 7\n60 U 21200 6523\n61 U 0 14677\ntotal 21200 21200\nbook 7\n60 U -3780 -1163\n61 U 0 -2617\ntotal -3780 -3780\nbook 7\n60 U -9020 -2776\n61 U 0 -6244\ntotal -9020 -9020\n";
 
-// Feeds each stage and adds its statement to what is printed; answers where that ends.
+// Feeds each stage and adds its statement to what is printed; answers how many bytes that are.
 fn stated(book: &mut Book, out: &mut [u8]) -> Result<usize, Fail> {
-    let mut end = 0;
+    let room = out.len();
+    let mut rest = out;
     for (words, groups) in STAGES {
         agree(feed(book, words), Ok(groups), "a feed")?;
-        end = add_statement(book, &Nprr1149, out, end)?;
+        rest = add_statement(book, &Nprr1149, rest)?;
     }
-    Ok(end)
+    Ok(room.saturating_sub(rest.len()))
 }
 
 #[test]
 fn restated(rt: HostRuntime) -> Result<(), Fail> {
-    let mut qses = [Account::new(0, 0); 64];
-    let mut resources = [ResourceRow::empty(); 256];
-    let mut book = Book::opened(7, &mut qses, &mut resources);
+    let mut slots = Slots::<64, 256>::empty();
+    let mut book = slots.open(7);
     let mut out = [0u8; 1_000];
     let end = stated(&mut book, &mut out)?;
     assert!(rt; end <= 1_000);

@@ -1,24 +1,17 @@
 // Feeds one after the other: what came before a fault stays in force, and an open draft turns a feed away.
-ghost use Rattle.std.specs.Prelude.{IfOk};
-ghost use Rattle.feed_tests.specs.Open.{Takes};
-
 use crate::feeds::SAMPLE;
 use book::book::Book;
-use book::draft::Draft;
 use editions::before_nprr1149::BeforeNprr1149;
-use editions::edition::Edition;
 use feed::feed::feed;
-use history::account::Account;
-use market::resource::ResourceRow;
+use running::slots::Slots;
 use std::test::Fail;
 use terms::fault::{Fault, Layer};
 use terms::refusal::Refusal;
 
 #[test]
 fn earlier_groups_stay(rt: HostRuntime) {
-    let mut qses = [Account::new(0, 0); 64];
-    let mut resources = [ResourceRow::empty(); 256];
-    let mut book = Book::opened(7, &mut qses, &mut resources);
+    let mut slots = Slots::<64, 256>::empty();
+    let mut book = slots.open(7);
     let fault = Fault {
         refusal: Refusal::UnknownHead,
         layer: Layer::Words,
@@ -33,36 +26,21 @@ fn earlier_groups_stay(rt: HostRuntime) {
     assert_eq!(rt; feed(&mut book, &SAMPLE), Ok(6));
 }
 
-// Takes a draft, which this book then takes back.
-fn draft_under<E: Edition>(book: &mut Book, edition: &E) -> Result<Draft, Refusal>
-    ensures takes { IfOk result (λ d. Takes book.new d) }
-{
-    book.draft(edition)
-}
-
-// Drops a draft that the book takes.
-fn drop_open(book: &mut Book, draft: Draft)
-    requires takes { Takes book.old draft }
-{
+// What a feed answers while a draft is open, which is dropped afterwards.
+fn fed_while_drafted(book: &mut Book) -> Result<Result<usize, Fault>, Refusal> {
+    let draft = book.draft(&BeforeNprr1149)?;
+    let answer = feed(book, &SAMPLE);
     match book.drop(draft) {
-        Ok(()) => {}
+        Ok(()) => Ok(answer),
+        // a feed leaves the draft open and the book its number
         Err(_) => unreachable(),
     }
 }
 
-// What a feed answers while a draft is open, which is dropped afterwards.
-fn fed_while_drafted(book: &mut Book) -> Result<Result<usize, Fault>, Refusal> {
-    let draft = draft_under(book, &BeforeNprr1149)?;
-    let answer = feed(book, &SAMPLE);
-    drop_open(book, draft);
-    Ok(answer)
-}
-
 #[test]
 fn rows_rest_while_drafted(rt: HostRuntime) -> Result<(), Fail> {
-    let mut qses = [Account::new(0, 0); 64];
-    let mut resources = [ResourceRow::empty(); 256];
-    let mut book = Book::opened(7, &mut qses, &mut resources);
+    let mut slots = Slots::<64, 256>::empty();
+    let mut book = slots.open(7);
     let fault = Fault {
         refusal: Refusal::DraftOpen,
         layer: Layer::Book,

@@ -1,9 +1,12 @@
 // Every figure at its limit, under each edition and in each service.
 use crate::load::Load;
-use crate::rules::{Rules, counted_sum};
-use crate::uniform::{SERVICES, every_interval, every_service};
+use crate::uniform::counted_sum;
 use apportion::{apportion, whole};
 use charges::shortfall::{position, shortfall};
+use editions::before_nprr1149::BeforeNprr1149;
+use editions::edition::Edition;
+use editions::nprr1149::Nprr1149;
+use editions::nprr1196::Nprr1196;
 use market::figures::{BareFigures, Figures};
 use market::prices::{
     BareIntervalPrices, BareServicePrices, IntervalPrices, Prices, ServicePrices,
@@ -11,8 +14,9 @@ use market::prices::{
 use market::quantities::{BareQuantities, Quantities};
 use std::test::Fail;
 use terms::class::Class;
+use terms::interval::ByInterval;
 use terms::refusal::Refusal;
-use terms::service::Service;
+use terms::service::{ByService, Service};
 
 // A tenth failed is then 4,000,000 / 40 = 100,000 cents, by MCPC and intervals alike, and one reduced 1,000,000 / 10.
 fn greatest_prices() -> Result<Prices, Refusal> {
@@ -26,8 +30,8 @@ fn greatest_prices() -> Result<Prices, Refusal> {
         rtrdp: 500_000,
     })?;
     Ok(Prices {
-        services: every_service(capacity),
-        intervals: every_interval(real_time),
+        services: ByService::always(capacity),
+        intervals: ByInterval::always(real_time),
     })
 }
 
@@ -139,17 +143,23 @@ fn charges(rt: HostRuntime) -> Result<(), Fail> {
         let counted = counted_sum(charged.counted)?;
         assert_eq!(rt; position(&quantities).value, charged.position);
         assert_eq!(rt; shortfall(&quantities, counted).value, charged.short);
-        for service in SERVICES {
+        for service in Service::ALL {
             assert_eq!(rt;
-                Rules::Before1149.charge(service, &quantities, counted, &prices),
+                BeforeNprr1149
+                    .charge(service, &quantities, counted, &prices)
+                    .value,
                 charged.before
             );
             assert_eq!(rt;
-                Rules::From1149.charge(service, &quantities, counted, &prices),
+                Nprr1149
+                    .charge(service, &quantities, counted, &prices)
+                    .value,
                 charged.since
             );
             assert_eq!(rt;
-                Rules::From1196.charge(service, &quantities, counted, &prices),
+                Nprr1196
+                    .charge(service, &quantities, counted, &prices)
+                    .value,
                 charged.since
             );
         }
@@ -170,41 +180,38 @@ const COUNTED: [(Service, u32, u32, u32, i32); 8] = [
 ];
 
 // What 256 resources with these figures count together: the most that an edition is told.
-fn counted_by_256(rules: Rules, service: Service, class: Class, figures: &Figures) -> i32 {
-    let mut sum: i32 = 0;
-    for _ in 0..256u32 {
-        sum = sum.wrapping_add(rules.counted(service, class, figures));
-    }
-    sum
+fn counted_by_256<E: Edition>(
+    edition: &E,
+    service: Service,
+    class: Class,
+    figures: &Figures,
+) -> i32 {
+    (0..256u32).fold(0i32, |sum, _| {
+        sum.wrapping_add(edition.counted(service, class, figures).value)
+    })
 }
 
 #[test]
 fn counted_sums(rt: HostRuntime) -> Result<(), Fail> {
     for (service, told, npf, lpc, tenths) in COUNTED {
         let figures = Figures::try_from(&BareFigures {
-            telemetered: every_service(told),
+            telemetered: ByService::always(told),
             npf,
             lpc,
         })?;
         let all = if told == 0 { 0 } else { 768_000 };
         let load = Class::OtherLoad;
+        assert_eq!(rt; counted_by_256(&BeforeNprr1149, service, load, &figures), 0);
+        assert_eq!(rt; counted_by_256(&Nprr1149, service, load, &figures), all);
         assert_eq!(rt;
-            counted_by_256(Rules::Before1149, service, load, &figures),
-            0
-        );
-        assert_eq!(rt;
-            counted_by_256(Rules::From1149, service, load, &figures),
+            counted_by_256(&Nprr1196, service, Class::Generation, &figures),
             all
         );
         assert_eq!(rt;
-            counted_by_256(Rules::From1196, service, Class::Generation, &figures),
+            counted_by_256(&Nprr1196, service, Class::ControllableLoad, &figures),
             all
         );
-        assert_eq!(rt;
-            counted_by_256(Rules::From1196, service, Class::ControllableLoad, &figures),
-            all
-        );
-        let sum = counted_by_256(Rules::From1196, service, load, &figures);
+        let sum = counted_by_256(&Nprr1196, service, load, &figures);
         assert_eq!(rt; sum, tenths.wrapping_mul(256), "{service:?}");
         assert_eq!(rt; counted_sum(sum)?.value, sum);
     }
@@ -226,9 +233,7 @@ fn credits_of_64_qses(rt: HostRuntime) -> Result<(), Fail> {
     for (total, credit) in CREDITED {
         let mut shares = [0u64; 64];
         apportion(total, &loads, &mut shares)?;
-        for share in shares {
-            assert_eq!(rt; share, credit);
-        }
+        assert_eq!(rt; shares, [credit; 64]);
     }
     Ok(())
 }

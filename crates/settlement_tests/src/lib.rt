@@ -12,8 +12,6 @@ mod load;
 #[cfg(test)]
 mod many_hours;
 #[cfg(test)]
-mod rules;
-#[cfg(test)]
 mod uniform;
 #[cfg(test)]
 mod worked_figures;

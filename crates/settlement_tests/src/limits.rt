@@ -1,5 +1,5 @@
-// Every check takes its greatest lawful figure, and refuses the next one by the right number.
-use crate::uniform::{NO_QUANTITIES, SERVICES, every_service};
+// Every check takes its greatest lawful figure, and refuses the next one by the right refusal.
+use crate::uniform::NO_QUANTITIES;
 use market::figures::{BareFigures, Figures};
 use market::number::{QseNumber, ResourceNumber};
 use market::prices::{BareIntervalPrices, BareServicePrices, IntervalPrices, ServicePrices};
@@ -9,14 +9,14 @@ use market::resource::{Resource, ResourceRow};
 use terms::class::Class;
 use terms::interval::Interval;
 use terms::refusal::Refusal;
-use terms::service::Service;
+use terms::service::{ByService, Service};
 
-const BAD_NUMBER: u8 = 2;
+const BAD_NUMBER: Refusal = Refusal::NumberOutOfRange;
 
-const BAD_FIGURE: u8 = 3;
+const BAD_FIGURE: Refusal = Refusal::FigureOutOfRange;
 
 // a number, and what is taken or the refusal
-const NUMBERED: [(u32, Result<u32, u8>); 5] = [
+const NUMBERED: [(u32, Result<u32, Refusal>); 5] = [
     (0, Err(BAD_NUMBER)),
     (1, Ok(1)),
     (999_999, Ok(999_999)),
@@ -24,35 +24,29 @@ const NUMBERED: [(u32, Result<u32, u8>); 5] = [
     (u32::MAX, Err(BAD_NUMBER)),
 ];
 
-fn qse_number(number: u32) -> Result<u32, u8> {
-    match QseNumber::try_from(number) {
-        Ok(taken) => Ok(taken.value),
-        Err(refusal) => Err(u8::from(refusal)),
-    }
-}
-
-fn resource_number(number: u32) -> Result<u32, u8> {
-    match ResourceNumber::try_from(number) {
-        Ok(taken) => Ok(taken.value),
-        Err(refusal) => Err(u8::from(refusal)),
-    }
-}
-
 #[test]
 fn numbers(rt: HostRuntime) {
-    assert_eq!(rt; u8::from(Refusal::NumberOutOfRange), BAD_NUMBER);
-    assert_eq!(rt; u8::from(Refusal::FigureOutOfRange), BAD_FIGURE);
+    assert_eq!(rt; u8::from(BAD_NUMBER), 2);
+    assert_eq!(rt; u8::from(BAD_FIGURE), 3);
     for (number, answer) in NUMBERED {
-        assert_eq!(rt; qse_number(number), answer, "QSE {number}");
-        assert_eq!(rt; resource_number(number), answer, "resource {number}");
+        assert_eq!(rt;
+            QseNumber::try_from(number).map(|taken| taken.value),
+            answer,
+            "QSE {number}"
+        );
+        assert_eq!(rt;
+            ResourceNumber::try_from(number).map(|taken| taken.value),
+            answer,
+            "resource {number}"
+        );
     }
 }
 
-const NO_SERVICE: Result<Service, Refusal> = Err(Refusal::FigureOutOfRange);
+const NO_SERVICE: Result<Service, Refusal> = Err(BAD_FIGURE);
 
-const NO_CLASS: Result<Class, Refusal> = Err(Refusal::FigureOutOfRange);
+const NO_CLASS: Result<Class, Refusal> = Err(BAD_FIGURE);
 
-const NO_INTERVAL: Result<Interval, Refusal> = Err(Refusal::FigureOutOfRange);
+const NO_INTERVAL: Result<Interval, Refusal> = Err(BAD_FIGURE);
 
 // a number, and the service, class and interval that it stands for
 const CODED: [(
@@ -121,42 +115,28 @@ const QUANTITIES: [Quantity; 10] = [
     Quantity::Inf,
 ];
 
-// All ten 0 but for this one.
-fn one_quantity(place: Quantity, tenths: u32) -> BareQuantities {
-    let mut quantities = NO_QUANTITIES;
+// Where a quantity stands, among bare ones and among those that were taken.
+fn quantity_in<T>(ten: &mut Quantities<T>, place: Quantity) -> &mut T {
     match place {
-        Quantity::Dasa => quantities.dasa = tenths,
-        Quantity::Rtsa => quantities.rtsa = tenths,
-        Quantity::Trs => quantities.trs = tenths,
-        Quantity::Rtpc => quantities.rtpc = tenths,
-        Quantity::Pc => quantities.pc = tenths,
-        Quantity::Ruc => quantities.ruc = tenths,
-        Quantity::Trp => quantities.trp = tenths,
-        Quantity::Fq => quantities.fq = tenths,
-        Quantity::Rfq => quantities.rfq = tenths,
-        Quantity::Inf => quantities.inf = tenths,
+        Quantity::Dasa => &mut ten.dasa,
+        Quantity::Rtsa => &mut ten.rtsa,
+        Quantity::Trs => &mut ten.trs,
+        Quantity::Rtpc => &mut ten.rtpc,
+        Quantity::Pc => &mut ten.pc,
+        Quantity::Ruc => &mut ten.ruc,
+        Quantity::Trp => &mut ten.trp,
+        Quantity::Fq => &mut ten.fq,
+        Quantity::Rfq => &mut ten.rfq,
+        Quantity::Inf => &mut ten.inf,
     }
-    quantities
 }
 
-// What the check keeps in the place where it was given.
-fn quantity_taken(place: Quantity, tenths: u32) -> Result<u32, u8> {
-    let taken = match Quantities::try_from(&one_quantity(place, tenths)) {
-        Ok(taken) => taken,
-        Err(refusal) => return Err(u8::from(refusal)),
-    };
-    Ok(match place {
-        Quantity::Dasa => taken.dasa.value,
-        Quantity::Rtsa => taken.rtsa.value,
-        Quantity::Trs => taken.trs.value,
-        Quantity::Rtpc => taken.rtpc.value,
-        Quantity::Pc => taken.pc.value,
-        Quantity::Ruc => taken.ruc.value,
-        Quantity::Trp => taken.trp.value,
-        Quantity::Fq => taken.fq.value,
-        Quantity::Rfq => taken.rfq.value,
-        Quantity::Inf => taken.inf.value,
-    })
+// What the check keeps in the place where it was given, with 0 in the nine others.
+fn quantity_taken(place: Quantity, tenths: u32) -> Result<u32, Refusal> {
+    let mut bare = NO_QUANTITIES;
+    *quantity_in(&mut bare, place) = tenths;
+    let mut taken = Quantities::try_from(&bare)?;
+    Ok(quantity_in(&mut taken, place).value)
 }
 
 #[test]
@@ -187,7 +167,7 @@ const FIGURES: [Figure; 7] = [
 // All seven 0 but for this one.
 fn one_figure(place: Figure, tenths: u32) -> BareFigures {
     let mut figures = BareFigures {
-        telemetered: every_service(0),
+        telemetered: ByService::always(0),
         npf: 0,
         lpc: 0,
     };
@@ -199,11 +179,10 @@ fn one_figure(place: Figure, tenths: u32) -> BareFigures {
     figures
 }
 
-fn figure_taken(place: Figure, tenths: u32) -> Result<u32, u8> {
-    let taken = match Figures::try_from(&one_figure(place, tenths)) {
-        Ok(taken) => taken,
-        Err(refusal) => return Err(u8::from(refusal)),
-    };
+// One function for setting and reading, as for the quantities, would be no plainer: it would name all five services,
+// which `set` and `of` spare it.
+fn figure_taken(place: Figure, tenths: u32) -> Result<u32, Refusal> {
+    let taken = Figures::try_from(&one_figure(place, tenths))?;
     Ok(match place {
         Figure::Telemetered(service) => taken.telemetered.of(service).value,
         Figure::Npf => taken.npf.value,
@@ -219,125 +198,102 @@ fn figures_of_a_resource(rt: HostRuntime) {
     }
 }
 
-// DAM, SASM and RSASM price, and whether they are lawful
-const CAPACITY: [(u32, u32, u32, bool); 4] = [
-    (1_000_000, 1_000_000, 1_000_000, true),
-    (1_000_001, 0, 0, false),
-    (0, 1_000_001, 0, false),
-    (0, 0, 1_000_001, false),
+// DAM, SASM and RSASM price, and what is taken
+const CAPACITY: [([u32; 3], Result<[u32; 3], Refusal>); 4] = [
+    ([1_000_000; 3], Ok([1_000_000; 3])),
+    ([1_000_001, 0, 0], Err(BAD_FIGURE)),
+    ([0, 1_000_001, 0], Err(BAD_FIGURE)),
+    ([0, 0, 1_000_001], Err(BAD_FIGURE)),
 ];
 
-// RTRSVPOR and RTRDP, and whether they are lawful
-const REAL_TIME: [(u32, u32, bool); 3] = [
-    (500_000, 500_000, true),
-    (500_001, 0, false),
-    (0, 500_001, false),
+// RTRSVPOR and RTRDP, and what is taken
+const REAL_TIME: [([u32; 2], Result<[u32; 2], Refusal>); 3] = [
+    ([500_000; 2], Ok([500_000; 2])),
+    ([500_001, 0], Err(BAD_FIGURE)),
+    ([0, 500_001], Err(BAD_FIGURE)),
 ];
-
-fn capacity_taken(dam: u32, sasm: u32, rsasm: u32) -> Result<[u32; 3], u8> {
-    match ServicePrices::try_from(&BareServicePrices { dam, sasm, rsasm }) {
-        Ok(taken) => Ok([taken.dam.value, taken.sasm.value, taken.rsasm.value]),
-        Err(refusal) => Err(u8::from(refusal)),
-    }
-}
-
-fn real_time_taken(rtrsvpor: u32, rtrdp: u32) -> Result<[u32; 2], u8> {
-    match IntervalPrices::try_from(&BareIntervalPrices { rtrsvpor, rtrdp }) {
-        Ok(taken) => Ok([taken.rtrsvpor.value, taken.rtrdp.value]),
-        Err(refusal) => Err(u8::from(refusal)),
-    }
-}
 
 #[test]
 fn prices(rt: HostRuntime) {
-    for (dam, sasm, rsasm, is_lawful) in CAPACITY {
-        let answer = if is_lawful {
-            Ok([dam, sasm, rsasm])
-        } else {
-            Err(BAD_FIGURE)
-        };
-        assert_eq!(rt; capacity_taken(dam, sasm, rsasm), answer);
+    for ([dam, sasm, rsasm], answer) in CAPACITY {
+        let taken = ServicePrices::try_from(&BareServicePrices { dam, sasm, rsasm });
+        assert_eq!(rt;
+            taken.map(|taken| [taken.dam.value, taken.sasm.value, taken.rsasm.value]),
+            answer
+        );
     }
-    for (rtrsvpor, rtrdp, is_lawful) in REAL_TIME {
-        let answer = if is_lawful {
-            Ok([rtrsvpor, rtrdp])
-        } else {
-            Err(BAD_FIGURE)
-        };
-        assert_eq!(rt; real_time_taken(rtrsvpor, rtrdp), answer);
+    for ([rtrsvpor, rtrdp], answer) in REAL_TIME {
+        let taken = IntervalPrices::try_from(&BareIntervalPrices { rtrsvpor, rtrdp });
+        assert_eq!(rt;
+            taken.map(|taken| [taken.rtrsvpor.value, taken.rtrdp.value]),
+            answer
+        );
     }
 }
 
-// number, load and the FQ of one service; the refusal, 0 where the row is taken
-const ENROLLED: [(u32, u32, u32, u8); 8] = [
-    (1, 20_000, 20_000, 0),
-    (999_999, 20_000, 20_000, 0),
-    (0, 0, 0, BAD_NUMBER),
-    (1_000_000, 0, 0, BAD_NUMBER),
-    (1, 20_001, 0, BAD_FIGURE),
-    (1, 0, 20_001, BAD_FIGURE),
+// number, load and the FQ of one service; the refusal, where the row is not taken
+const ENROLLED: [(u32, u32, u32, Option<Refusal>); 8] = [
+    (1, 20_000, 20_000, None),
+    (999_999, 20_000, 20_000, None),
+    (0, 0, 0, Some(BAD_NUMBER)),
+    (1_000_000, 0, 0, Some(BAD_NUMBER)),
+    (1, 20_001, 0, Some(BAD_FIGURE)),
+    (1, 0, 20_001, Some(BAD_FIGURE)),
     // both faults: the number is told
-    (0, 20_001, 0, BAD_NUMBER),
-    (1_000_000, 0, 20_001, BAD_NUMBER),
+    (0, 20_001, 0, Some(BAD_NUMBER)),
+    (1_000_000, 0, 20_001, Some(BAD_NUMBER)),
 ];
-
-fn qse_refusal(row: &QseRow) -> u8 {
-    match Qse::try_from(row) {
-        Ok(_) => 0,
-        Err(refusal) => u8::from(refusal),
-    }
-}
 
 #[test]
 fn rows_of_qses(rt: HostRuntime) {
     for (number, load, fq, refusal) in ENROLLED {
-        for service in SERVICES {
-            let mut quantities = every_service(NO_QUANTITIES);
-            quantities.set(service, one_quantity(Quantity::Fq, fq));
+        for service in Service::ALL {
+            let mut quantities = ByService::always(NO_QUANTITIES);
+            let failed = BareQuantities {
+                fq,
+                ..NO_QUANTITIES
+            };
+            quantities.set(service, failed);
             let row = QseRow {
                 number,
                 load,
                 quantities,
             };
-            assert_eq!(rt; qse_refusal(&row), refusal, "QSE {number}, {service:?}");
+            assert_eq!(rt;
+                Qse::try_from(&row).err(),
+                refusal,
+                "QSE {number}, {service:?}"
+            );
         }
     }
 }
 
-// number, QSE and one figure; the refusal, 0 where the row is taken
-const LISTED: [(u32, u32, u32, u8); 9] = [
-    (1, 999_999, 3_000, 0),
-    (999_999, 1, 3_000, 0),
-    (0, 1, 0, BAD_NUMBER),
-    (1_000_000, 1, 0, BAD_NUMBER),
-    (1, 0, 0, BAD_NUMBER),
-    (1, 1_000_000, 0, BAD_NUMBER),
-    (1, 1, 3_001, BAD_FIGURE),
+// number, QSE and one figure; the refusal, where the row is not taken
+const LISTED: [(u32, u32, u32, Option<Refusal>); 9] = [
+    (1, 999_999, 3_000, None),
+    (999_999, 1, 3_000, None),
+    (0, 1, 0, Some(BAD_NUMBER)),
+    (1_000_000, 1, 0, Some(BAD_NUMBER)),
+    (1, 0, 0, Some(BAD_NUMBER)),
+    (1, 1_000_000, 0, Some(BAD_NUMBER)),
+    (1, 1, 3_001, Some(BAD_FIGURE)),
     // both faults: the number is told
-    (0, 1, 3_001, BAD_NUMBER),
-    (1, 1_000_000, 3_001, BAD_NUMBER),
+    (0, 1, 3_001, Some(BAD_NUMBER)),
+    (1, 1_000_000, 3_001, Some(BAD_NUMBER)),
 ];
-
-fn resource_refusal(row: &ResourceRow) -> u8 {
-    match Resource::try_from(row) {
-        Ok(_) => 0,
-        Err(refusal) => u8::from(refusal),
-    }
-}
 
 #[test]
 fn rows_of_resources(rt: HostRuntime) {
     for (number, qse, figure, refusal) in LISTED {
         for place in FIGURES {
-            let figures = one_figure(place, figure);
             let row = ResourceRow {
                 number,
                 qse,
                 class: Class::OtherLoad,
-                figures,
+                figures: one_figure(place, figure),
             };
             assert_eq!(rt;
-                resource_refusal(&row),
+                Resource::try_from(&row).err(),
                 refusal,
                 "resource {number}, {place:?}"
             );

@@ -1,23 +1,9 @@
-// The places of a figure, and one figure in every place.
+// Figures that several tests start from.
 use market::quantities::BareQuantities;
-use terms::interval::{ByInterval, Interval};
-use terms::service::{ByService, Service};
+use market::units::SignedTenths;
+use std::test::Fail;
 
-pub const SERVICES: [Service; 5] = [
-    Service::RegUp,
-    Service::RegDown,
-    Service::Responsive,
-    Service::NonSpin,
-    Service::Ecrs,
-];
-
-pub const INTERVALS: [Interval; 4] = [
-    Interval::First,
-    Interval::Second,
-    Interval::Third,
-    Interval::Fourth,
-];
-
+// Ten zeros, written out: a constant calls no function, and the tables of the tests are constants.
 pub const NO_QUANTITIES: BareQuantities = BareQuantities {
     dasa: 0,
     rtsa: 0,
@@ -31,21 +17,10 @@ pub const NO_QUANTITIES: BareQuantities = BareQuantities {
     inf: 0,
 };
 
-pub fn every_service<T: Copy>(value: T) -> ByService<T> {
-    ByService {
-        up: value,
-        down: value,
-        responsive: value,
-        nonspin: value,
-        ecrs: value,
+// The counted sum of this many tenths: what 256 resources can add up to, and no more.
+pub fn counted_sum(tenths: i32) -> Result<SignedTenths<768_000>, Fail> {
+    if tenths < -768_000 || tenths > 768_000 {
+        return Err(Fail::new("no 256 resources count so much"));
     }
-}
-
-pub fn every_interval<T: Copy>(value: T) -> ByInterval<T> {
-    ByInterval {
-        first: value,
-        second: value,
-        third: value,
-        fourth: value,
-    }
+    Ok(SignedTenths { value: tenths })
 }

@@ -1,8 +1,12 @@
 // The twelve figures that were worked by hand, asked of the code.
 use crate::load::Load;
-use crate::rules::{Rules, counted_sum};
-use crate::uniform::{INTERVALS, NO_QUANTITIES, SERVICES, every_service};
+use crate::uniform::{NO_QUANTITIES, counted_sum};
 use apportion::apportion;
+use checks::agree;
+use editions::before_nprr1149::BeforeNprr1149;
+use editions::edition::Edition;
+use editions::nprr1149::Nprr1149;
+use editions::nprr1196::Nprr1196;
 use market::figures::{BareFigures, Figures};
 use market::prices::{
     BareIntervalPrices, BareServicePrices, IntervalPrices, Prices, ServicePrices,
@@ -12,11 +16,10 @@ use std::test::Fail;
 use terms::class::Class;
 use terms::interval::Interval;
 use terms::refusal::Refusal;
-use terms::service::Service;
+use terms::service::{ByService, Service};
 
 #[derive(Clone, Copy)]
 struct Charged {
-    rules: Rules,
     quantities: BareQuantities,
     counted: i32,
     capacity: BareServicePrices,
@@ -26,7 +29,6 @@ struct Charged {
 }
 
 const SAMPLE: Charged = Charged {
-    rules: Rules::Before1149,
     quantities: BareQuantities {
         pc: 100,
         fq: 36,
@@ -66,19 +68,9 @@ const TENTHS_OF_A_CENT: Charged = Charged {
     ..SAMPLE
 };
 
-const CHARGED: [Charged; 5] = [
+// before NPRR1149
+const BEFORE: [Charged; 3] = [
     SAMPLE,
-    Charged {
-        rules: Rules::From1149,
-        cents: 9_500,
-        ..SAMPLE
-    },
-    Charged {
-        rules: Rules::From1149,
-        counted: 60,
-        cents: 8_600,
-        ..SAMPLE
-    },
     TENTHS_OF_A_CENT,
     Charged {
         quantities: BareQuantities {
@@ -87,6 +79,19 @@ const CHARGED: [Charged; 5] = [
         },
         cents: 1,
         ..TENTHS_OF_A_CENT
+    },
+];
+
+// under NPRR1149
+const SINCE: [Charged; 2] = [
+    Charged {
+        cents: 9_500,
+        ..SAMPLE
+    },
+    Charged {
+        counted: 60,
+        cents: 8_600,
+        ..SAMPLE
     },
 ];
 
@@ -102,21 +107,28 @@ fn prices(charged: &Charged, service: Service, interval: Interval) -> Result<Pri
 }
 
 // The charge is the same in whichever service and interval the figures stand.
-#[test]
-fn charges(rt: HostRuntime) -> Result<(), Fail> {
-    for charged in CHARGED {
-        let rules = charged.rules;
-        let quantities = Quantities::try_from(&charged.quantities)?;
-        let counted = counted_sum(charged.counted)?;
-        for service in SERVICES {
-            for interval in INTERVALS {
-                let prices = prices(&charged, service, interval)?;
-                let cents = rules.charge(service, &quantities, counted, &prices);
-                assert_eq!(rt; cents, charged.cents, "{service:?}, {interval:?}");
+fn check_charges<E: Edition>(edition: &E, hours: &[Charged]) -> Result<(), Fail> {
+    for hour in hours {
+        let quantities = Quantities::try_from(&hour.quantities)?;
+        let counted = counted_sum(hour.counted)?;
+        for service in Service::ALL {
+            for interval in Interval::ALL {
+                let prices = prices(hour, service, interval)?;
+                agree(
+                    edition.charge(service, &quantities, counted, &prices).value,
+                    hour.cents,
+                    format_args!("the charge in {service:?}, {interval:?}"),
+                )?;
             }
         }
     }
     Ok(())
+}
+
+#[test]
+fn charges() -> Result<(), Fail> {
+    check_charges(&BeforeNprr1149, &BEFORE)?;
+    check_charges(&Nprr1149, &SINCE)
 }
 
 #[derive(Clone, Copy)]
@@ -160,7 +172,7 @@ const COUNTED: [Counted; 4] = [
 #[test]
 fn counted_of_a_resource(rt: HostRuntime) -> Result<(), Fail> {
     for counted in COUNTED {
-        let mut telemetered = every_service(0);
+        let mut telemetered = ByService::always(0);
         telemetered.set(counted.service, counted.telemetered);
         let figures = Figures::try_from(&BareFigures {
             telemetered,
@@ -168,7 +180,9 @@ fn counted_of_a_resource(rt: HostRuntime) -> Result<(), Fail> {
             lpc: counted.lpc,
         })?;
         assert_eq!(rt;
-            Rules::From1196.counted(counted.service, counted.class, &figures),
+            Nprr1196
+                .counted(counted.service, counted.class, &figures)
+                .value,
             counted.tenths
         );
     }

@@ -1,5 +1,0 @@
-use Rattle.book_tests.specs.Open.{Rests}
-use Rattle.book_tests.proofs.refused_calls.faulty_rest.Given as goal
-
-abbrev pub invariant-loop-setting : goal.invariant-loop-setting
-invariant-loop-setting l = Rests l.initial.book l.book

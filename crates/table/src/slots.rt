@@ -36,6 +36,7 @@ pub fn locate<R: Numbered>(held: &[R], number: u32) -> Result<usize, usize>
 }
 
 // Puts a row at a place: each of the `used` rows from there on moves one slot up.
+// The slots and how many of them are used, since the slots are lent: a vector would own them.
 pub(crate) fn insert<R: Copy>(slots: &mut [R], used: usize, place: usize, row: R)
     requires place { place ≤ used }
     requires free { used < length slots.old }

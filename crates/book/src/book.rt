@@ -17,7 +17,7 @@ pub struct Book<'a> {
     pub(crate) accounts: Table<'a, Account>,
     pub(crate) resources: Table<'a, ResourceRow>,
     pub(crate) prices: Prices,
-    // two flags and no enum of four stages, which would be no plainer: each call looks at one of them, and sets one
+    // two flags and no enum of four stages, which would be no plainer: a call looks at one of them alone
     pub(crate) drafted: bool,
     pub(crate) issued: bool,
     // rows lie within the slots, rise in number and keep their limits

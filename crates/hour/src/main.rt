@@ -34,7 +34,7 @@ fn main(rt: HostRuntime) -> Result<(), Failure> {
     match feed(&mut book, &words[..count]) {
         Ok(_) => print_statements(&mut rt.stdout(), &mut book),
         Err(fault) => {
-            let mut line = [0u8; 69];
+            let mut line = [0u8; 35];
             let end = fault_line(&fault, &mut line)?;
             rt.stdout().write_all(&line[..end])?;
             Ok(())

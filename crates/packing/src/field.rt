@@ -11,7 +11,7 @@ use terms::service::Service;
 fn is_numeral(field: &str) -> bool
     ensures answer { result ≡ is_numeral field.now }
 {
-    // a loop, since the goal that `all` leaves takes more lemmas than this
+    // a loop, since with `all` the goal `returns-then-not-is_empty` stays open
     for byte in field.as_bytes() {
         if !byte.is_ascii_digit() {
             return false;

@@ -7,8 +7,8 @@ use crate::numbered::Numbered;
 
 // Where the row of a number stands, or else where it belongs.
 // 256 rows take eight halvings, and then one look at the row that is left.
-// By hand, since a look-up by std's `binary_search_by_key` takes 99 instructions there, one by `partition_point` 102, and
-// this one 88 (by callgrind, mean of 10,000,000).
+// By hand, since it is asked for each resource in each service, where an instruction counts: std's `binary_search_by_key`
+// takes 99 there, `partition_point` 102, and this one 88 (by callgrind, mean of 10,000,000).
 pub fn locate<R: Numbered>(held: &[R], number: u32) -> Result<usize, usize>
     ensures answer { Rising R.Numbered.number held.now → result ≡ located R.Numbered.number number held.now }
     ensures within { MatchResult result (λ i. i < length held.now) (λ i. i ≤ length held.now) }

@@ -3,4 +3,5 @@ mod Calls
 mod Halving
 pub mod Laws
 pub mod Places
+mod Revising
 mod Shift

@@ -1,6 +1,7 @@
 -- Rows changed one after the other.
-use Rattle.std.proofs.Common.{◌≡◌, ℕ, zero, suc, ◌+◌, ◌<◌, List, [], ◌∷◌, ◌++◌, map, length, get_or, take, drop, set, refl, ap, arith}
-use Rattle.table.specs.Rows.{Rising, revised}
+use Rattle.std.proofs.Common.{◌≡◌, ℕ, zero, suc, ◌+◌, ◌<◌, Bool, true, List, [], ◌∷◌, ◌++◌, map, length, get_or, take, drop, set, refl, sym, ap, ◌∙◌, arith}
+use Rattle.std.proofs.lemmas.List.{get_or-map, length-map}
+use Rattle.table.specs.Rows.{Rising, AllSound, revised}
 
 module _ {R : Type 0} (change : ℕ → R → R) where
   -- one row more is changed
@@ -15,15 +16,11 @@ module _ {R : Type 0} (change : ℕ → R → R) where
   next_kept k (x ∷ xs) zero d h = refl
   next_kept k (x ∷ xs) (suc i) d h = next_kept (suc k) xs i d (omega arith)
 
-  -- what a change keeps of each row stays
-  pub map_revised : {A : Type 0} (f : R → A) → ((k : ℕ) (r : R) → f (change k r) ≡ f r) → (k : ℕ) (xs : List R) → map f (revised change k xs) ≡ map f xs
-  map_revised f h k [] = refl
-  map_revised f h k (x ∷ xs) = let ih = map_revised f h (suc k) xs in let e = h k x in cc
+module _ {R : Type 0} (num : R → ℕ) where
+  -- rising is a fact of the numbers
+  pub rising_by_numbers : (xs ys : List R) → map num ys ≡ map num xs → Rising num xs → Rising num ys
+  rising_by_numbers xs ys e up = λ i l. rw e (up i (omega (arith, ap length e, length-map xs num, length-map ys num)))
 
-  pub length_revised : (k : ℕ) (xs : List R) → length (revised change k xs) ≡ length xs
-  length_revised k [] = refl
-  length_revised k (x ∷ xs) = ap suc (length_revised (suc k) xs)
-
-  -- so rising rows rise after a change that keeps the numbers
-  pub rising_revised : (num : R → ℕ) → ((k : ℕ) (r : R) → num (change k r) ≡ num r) → (k : ℕ) (xs : List R) → Rising num xs → Rising num (revised change k xs)
-  rising_revised num h k xs up = λ i l. rw (map_revised num h k xs) (up i (omega (arith, length_revised k xs)))
+-- each of sound rows is sound
+pub sound_here : {R : Type 0} (sound : R → Bool) (xs : List R) (i : ℕ) (d : R) → AllSound sound xs → i < length xs → sound (get_or xs i d) ≡ true
+sound_here sound xs i d a l = sym (get_or-map sound xs i d true l) ∙ a i l

@@ -1,16 +1,14 @@
 // What a row of a table becomes where all rows change in place.
-ghost use Rattle.std.specs.Prelude.{◌≡◌, ℕ};
+ghost use Rattle.std.specs.Prelude.{◌≡◌, ℕ, true};
 
 use crate::numbered::Numbered;
 
-// A change of rows that leaves each its number.
+// A change of rows that leaves each its number, and so its place.
 pub trait Revision<R: Numbered> {
-    // The row that the row at a place becomes.
+    // What a sound row at a place becomes.
     ghost revised: { Self → ℕ → R → R };
 
     fn revise(&self, place: usize, row: &mut R)
-        ensures after { row.new ≡ revised self.now place row.old };
-
-    // The row keeps its number, and so its place.
-    ghost keeps_number: { (change : Self) (place : ℕ) (row : R) → R.Numbered.number (revised change place row) ≡ R.Numbered.number row };
+        ensures after { R.Numbered.sound row.old ≡ true → row.new ≡ revised self.now place row.old }
+        ensures number { R.Numbered.number row.new ≡ R.Numbered.number row.old };
 }

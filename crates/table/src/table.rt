@@ -1,7 +1,7 @@
 // A table of rows over the caller's slots. The first `len` slots hold the rows, in rising order of number;
 // what the others hold is never read. No call asks anything of its caller. That rows have their figures within
 // limits (`AllSound`) is for a struct around the table to keep as its own.
-ghost use Rattle.std.specs.Prelude.{◌≡◌, ◌-◌, ◌≤◌, min, true, [], length, if◌then◌else◌, Some, None, Ok, Err, IfSome};
+ghost use Rattle.std.specs.Prelude.{◌≡◌, ◌-◌, ◌≤◌, min, true, [], map, length, if◌then◌else◌, Some, None, Ok, Err, IfSome};
 ghost use Rattle.std.specs.List.{slice_get};
 ghost use Rattle.table.specs.Rows.{Rising, AllSound, found, known, rank, holds, fits, put, removed, revised};
 ghost use Rattle.table.specs.Tables.{rows, capacity, Sound, full, absent, misplaced};
@@ -168,7 +168,8 @@ impl<'a, R: Numbered> Table<'a, R> {
 
     // Changes every row in place. Each keeps its number, and so its place.
     pub fn revise<V: Revision<R>>(&mut self, revision: &V)
-        ensures after { rows self.new ≡ revised (V.Revision.revised revision.now) 0 (rows self.old) }
+        ensures after { AllSound R.Numbered.sound (rows self.old) → rows self.new ≡ revised (V.Revision.revised revision.now) 0 (rows self.old) }
+        ensures numbers { map R.Numbered.number (rows self.new) ≡ map R.Numbered.number (rows self.old) }
         ensures capacity { capacity self.new ≡ capacity self.old }
     {
         revise_each(revision, self.slots, self.len);

@@ -3,5 +3,5 @@ mod Calls
 mod Halving
 pub mod Laws
 pub mod Places
-mod Revising
+pub mod Revising
 mod Shift

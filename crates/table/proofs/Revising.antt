@@ -16,6 +16,11 @@ module _ {R : Type 0} (change : ℕ → R → R) where
   next_kept k (x ∷ xs) zero d h = refl
   next_kept k (x ∷ xs) (suc i) d h = next_kept (suc k) xs i d (omega arith)
 
+-- a change that does not look at the place is made of each row
+pub revised_alike : {R : Type 0} (f : R → R) (k : ℕ) (xs : List R) → revised (λ _ r. f r) k xs ≡ map f xs
+revised_alike f k [] = refl
+revised_alike f k (x ∷ xs) = ap (λ ys. f x ∷ ys) (revised_alike f (suc k) xs)
+
 module _ {R : Type 0} (num : R → ℕ) where
   -- rising is a fact of the numbers
   pub rising_by_numbers : (xs ys : List R) → map num ys ≡ map num xs → Rising num xs → Rising num ys

@@ -170,6 +170,7 @@ impl<'a, R: Numbered> Table<'a, R> {
     pub fn revise<V: Revision<R>>(&mut self, revision: &V)
         ensures after { AllSound R.Numbered.sound (rows self.old) → rows self.new ≡ revised (V.Revision.revised revision.now) 0 (rows self.old) }
         ensures numbers { map R.Numbered.number (rows self.new) ≡ map R.Numbered.number (rows self.old) }
+        ensures sound { AllSound R.Numbered.sound (rows self.new) → Sound R.Numbered.number R.Numbered.sound self.new }
         ensures capacity { capacity self.new ≡ capacity self.old }
     {
         revise_each(revision, self.slots, self.len);

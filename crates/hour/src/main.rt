@@ -26,6 +26,7 @@ fn main(rt: HostRuntime) -> Result<(), Failure> {
     let mut room = [0; MOST_BYTES];
     let bytes = read_input(&mut rt.stdin(), &mut room)?;
     let mut words = [0; MOST_WORDS];
+    // a number beside the words, as what makes them and what writes a text answer how much they made
     let count = words_of(bytes, &mut words);
     let mut qses = [Account::new(0, 0); 64];
     let mut resources = [ResourceRow::empty(); 256];

@@ -82,7 +82,7 @@ impl TryFrom<&BareIntervalPrices> for IntervalPrices {
 }
 
 impl Prices {
-    // An hour with every price 0.
+    // An hour with every price 0. No `Default`, which is not derived over ghost fields.
     pub fn none() -> Prices
         ensures answer { bare_prices result ≡ no_prices }
     {

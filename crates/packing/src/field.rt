@@ -52,7 +52,7 @@ impl FromStr for Figure {
     }
 }
 
-// The service whose letter a field is.
+// The service whose letter a field is. A function and no `FromStr`, since neither the trait nor the type is this crate's.
 pub fn service(field: &str) -> Result<Service, Wrong>
     ensures answer { result ≡ service_of_field field.now }
 {

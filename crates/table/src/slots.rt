@@ -8,8 +8,8 @@ use crate::revision::Revision;
 
 // Where the row of a number stands, or else where it belongs.
 // 256 rows take eight halvings, and then one look at the row that is left.
-// By hand, since a look-up by std's `binary_search_by_key` takes 99 instructions there and this one 88 (by callgrind,
-// mean of 10,000,000), and a tenth more time; one by `partition_point` takes 102, and looks at the row twice.
+// By hand, since a look-up by std's `binary_search_by_key` takes 99 instructions there, one by `partition_point` 102, and
+// this one 88 (by callgrind, mean of 10,000,000).
 pub fn locate<R: Numbered>(held: &[R], number: u32) -> Result<usize, usize>
     ensures answer { Rising R.Numbered.number held.now → result ≡ located R.Numbered.number number held.now }
     ensures within { MatchResult result (λ i. i < length held.now) (λ i. i ≤ length held.now) }
@@ -37,6 +37,7 @@ pub fn locate<R: Numbered>(held: &[R], number: u32) -> Result<usize, usize>
 }
 
 // Puts a row at a place: each of the `used` rows from there on moves one slot up.
+// The slots and how many of them are used, since the slots are lent: a vector would own them.
 pub(crate) fn insert<R: Copy>(slots: &mut [R], used: usize, place: usize, row: R)
     requires place { place ≤ used }
     requires free { used < length slots.old }

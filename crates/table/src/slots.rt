@@ -1,9 +1,10 @@
 // What a table does with the slots that its caller lends: finds a number in them, and makes and closes gaps.
-ghost use Rattle.std.specs.Prelude.{◌≡◌, ◌+◌, ◌-◌, ◌<◌, ◌≤◌, length, take, MatchResult};
+ghost use Rattle.std.specs.Prelude.{◌≡◌, ◌+◌, ◌-◌, ◌<◌, ◌≤◌, map, length, take, MatchResult};
 ghost use Rattle.std.specs.List.{insert, remove};
-ghost use Rattle.table.specs.Rows.{Rising, located};
+ghost use Rattle.table.specs.Rows.{Rising, AllSound, located, revised};
 
 use crate::numbered::Numbered;
+use crate::revision::Revision;
 
 // Where the row of a number stands, or else where it belongs.
 // 256 rows take eight halvings, and then one look at the row that is left.
@@ -53,4 +54,15 @@ pub(crate) fn strike<R: Copy>(slots: &mut [R], used: usize, place: usize)
     ensures after { take (used - 1) slots.new ≡ remove (take used slots.old) place }
 {
     slots.copy_within(place + 1..used, place);
+}
+
+// Changes each of the `used` rows in place.
+pub(crate) fn revise_each<R: Numbered, V: Revision<R>>(revision: &V, slots: &mut [R], used: usize)
+    requires within { used ≤ length slots.old }
+    ensures after { AllSound R.Numbered.sound (take used slots.old) → take used slots.new ≡ revised (V.Revision.revised revision.now) 0 (take used slots.old) }
+    ensures numbers { map R.Numbered.number (take used slots.new) ≡ map R.Numbered.number (take used slots.old) }
+{
+    for (place, row) in slots[0..used].iter_mut().enumerate() {
+        revision.revise(place, row);
+    }
 }

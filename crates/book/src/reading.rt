@@ -16,7 +16,7 @@ use terms::refusal::Refusal;
 use terms::service::Service;
 
 impl Book<'_> {
-    // The account of an enrolled QSE, and the service of a letter.
+    // The account of an enrolled QSE, and the service of a letter. Both are given raw, as to each call of the book.
     fn asked(&self, qse: u32, letter: char) -> Result<(Service, Account), Refusal>
         ensures answer { result ≡ asked_of (view self.now) qse letter both }
         ensures sound { IfOk result (λ x. account_sound x.1 ≡ true) }

@@ -1,6 +1,6 @@
 // The units of the hour, each with its limit in the type: a number beyond it cannot exist.
-// Each unit is a type of its own. One type generic in the unit would be no plainer: beside a ghost field `Clone` is not
-// derived for a type parameter ("derive-over-ghost-field"), and each literal would name a marker beside its figure.
+// Each unit is a type of its own, with its `TryFrom`. One type generic in the unit would be no plainer: beside a ghost
+// field `Clone` is not derived for a type parameter ("derive-over-ghost-field"), and each literal would name a marker.
 ghost use Rattle.std.specs.Prelude.{◌≡◌, ◌≤◌, pos, neg_ℤ, ◌≤ℤ◌, nat_le};
 ghost use Rattle.market.specs.Answers.{plainly, if_within};
 

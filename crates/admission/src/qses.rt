@@ -9,6 +9,7 @@ ghost use Rattle.history.specs.Calls.{unless, with_load, enrolled as enrolled_ac
 use history::account::Account;
 use market::number::QseNumber;
 use market::quantities::{BareQuantities, Quantities};
+use market::units::Mwh;
 use terms::refusal::Refusal;
 use terms::service::Service;
 
@@ -20,9 +21,7 @@ pub fn tested_enrol(drafted: bool, qse: u32, load: u32) -> Result<(), Refusal>
         return Err(Refusal::DraftOpen);
     }
     QseNumber::try_from(qse)?;
-    if load > 20_000 {
-        return Err(Refusal::FigureOutOfRange);
-    }
+    Mwh::<20_000>::try_from(load)?;
     Ok(())
 }
 

@@ -1,8 +1,7 @@
 -- What is asked of a service of a QSE's account, and the limits of what it answers.
-use Rattle.std.proofs.Common.{◌≡◌, ℕ, Bool, true, false, cond, Some, None, Ok, Err, Option, Result, refl, ap, ◌∙◌, arith}
-use Rattle.std.proofs.lemmas.Bool.{eq-eqb}
+use Rattle.std.proofs.Common.{◌≡◌, ℕ, Bool, true, false, cond, eqb, Some, None, Ok, Err, Option, Result, refl, ap, ◌∙◌, arith}
 use Rattle.terms.specs.declared.refusal.Refusal.{Refusal}
-use Rattle.terms.specs.declared.refusal.Refusal.TheVariants.{NumberOutOfRange}
+use Rattle.terms.specs.declared.refusal.Refusal.TheVariants.{NumberOutOfRange, OtherBook, NoDraft}
 use Rattle.terms.specs.declared.service.Service.{Service}
 use Rattle.terms.specs.declared.service.Service.TheVariants.{RegUp, RegDown, Responsive, NonSpin, Ecrs}
 use Rattle.market.specs.Answers.{plainly}
@@ -10,7 +9,7 @@ use Rattle.market.specs.Limits.{numbered}
 use Rattle.terms.specs.Services.{of, service_of_letter}
 use Rattle.table.specs.Rows.{found}
 use Rattle.history.specs.declared.account.Account.{Account}
-use Rattle.history.specs.Calls.{State, qse_of, of_account, of_letter, asked, preview}
+use Rattle.history.specs.Calls.{State, qse_of, of_account, of_letter, unless, asked, preview}
 use Rattle.history.specs.Settlement.{less, line_of}
 use Rattle.book.specs.View.{both}
 
@@ -46,6 +45,11 @@ line_of_lem Responsive a = refl
 line_of_lem NonSpin a = refl
 line_of_lem Ecrs a = refl
 
--- a preview of this book's open draft is what is asked of the line
-pub previewed_asks : (s : State) (n q l : ℕ) → n ≡ s.number → s.drafted ≡ true → asked s q l (λ v a. of v (line_of a)) ≡ preview s n q l
-previewed_asks s n q l e d = rw (eq-eqb n s.number e, d)
+-- a preview whose draft's tests refuse nothing is what is asked of the line
+previewed_by : {A : Type 0} (mine drafted : Bool) (x : Result A Refusal) → unless mine OtherBook (unless drafted NoDraft None) ≡ None → x ≡ cond mine (cond drafted x (Err NoDraft)) (Err OtherBook)
+previewed_by true true x e = refl
+previewed_by true false x e = absurd (let z : ◌≡◌ {A = ℕ} 0 1 = cc in omega arith)
+previewed_by false d x e = absurd (let z : ◌≡◌ {A = ℕ} 0 1 = cc in omega arith)
+
+pub previewed_asks : (s : State) (n q l : ℕ) → unless (eqb n s.number) OtherBook (unless s.drafted NoDraft None) ≡ None → asked s q l (λ v a. of v (line_of a)) ≡ preview s n q l
+previewed_asks s n q l e = previewed_by (eqb n s.number) s.drafted (asked s q l (λ v a. of v (line_of a))) e

@@ -57,7 +57,7 @@ impl<'a> Book<'a> {
         })
     }
 
-    // Takes the draft; nothing is billed.
+    // Takes the draft; nothing is billed. Beside `issue` no twin: what they do once the draft is theirs differs.
     pub fn drop(&mut self, draft: Draft) -> Result<(), (Refusal, Draft)>
         ensures called { Called (view self.old) (drop_call draft.book) (said_back result) (view self.new) }
         ensures back { HandsBack draft result }

@@ -21,7 +21,7 @@ impl Book<'_> {
         }
     }
 
-    // Sets the ten quantities of an enrolled QSE in a service.
+    // Sets the ten quantities of an enrolled QSE in a service, given by its number: calls take raw figures and check them.
     pub fn quantities(
         &mut self,
         qse: u32,

@@ -7,6 +7,7 @@ ghost use Rattle.book.specs.View.{view, both, in_cents};
 
 use crate::book::Book;
 use crate::draft::Draft;
+use admission::drafts::tested_draft;
 use admission::letters::asked_service;
 use history::account::Account;
 use market::units::Cents;
@@ -15,7 +16,7 @@ use terms::refusal::Refusal;
 use terms::service::Service;
 
 impl Book<'_> {
-    // The account of an enrolled QSE, and the service of a letter.
+    // The account of an enrolled QSE, and the service of a letter. Both are given raw, as to each call of the book.
     fn asked(&self, qse: u32, letter: char) -> Result<(Service, Account), Refusal>
         ensures answer { result ≡ asked_of (view self.now) qse letter both }
         ensures sound { IfOk result (λ x. account_sound x.1 ≡ true) }
@@ -44,12 +45,7 @@ impl Book<'_> {
     fn previewed(&self, carried: u32, qse: u32, letter: char) -> Result<(i64, i64), Refusal>
         ensures answer { result ≡ preview_of (view self.now) carried qse letter }
     {
-        if carried != self.number {
-            return Err(Refusal::OtherBook);
-        }
-        if !self.drafted {
-            return Err(Refusal::NoDraft);
-        }
+        tested_draft(carried, self.number, self.drafted)?;
         let (service, account) = self.asked(qse, letter)?;
         let settled = account.settled.of(service);
         let billed = account.billed.of(service);

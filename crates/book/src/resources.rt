@@ -10,7 +10,8 @@ use market::resource::ResourceRow;
 use terms::refusal::Refusal;
 
 impl Book<'_> {
-    // Enters a resource of an enrolled QSE, or gives a known resource its new figures.
+    // Enters a resource of an enrolled QSE, or gives a known resource its new figures. Its class is given by its number:
+    // calls take raw figures and check them.
     pub fn enter(
         &mut self,
         resource: u32,

@@ -9,7 +9,7 @@ use market::prices::{BareIntervalPrices, BareServicePrices};
 use terms::refusal::Refusal;
 
 impl Book<'_> {
-    // Sets the three prices of a service.
+    // Sets the three prices of a service, given by its number: calls take raw figures and check them.
     pub fn prices(&mut self, service: u32, bare: BareServicePrices) -> Result<(), Refusal>
         ensures called { Called (view self.old) (prices_call service bare) (said result) (view self.new) }
     {
@@ -18,7 +18,7 @@ impl Book<'_> {
         Ok(())
     }
 
-    // Sets the two Real-Time prices of an interval.
+    // Sets the two Real-Time prices of an interval, given by its number: calls take raw figures and check them.
     pub fn interval(&mut self, interval: u32, bare: BareIntervalPrices) -> Result<(), Refusal>
         ensures called { Called (view self.old) (interval_call interval bare) (said result) (view self.new) }
     {

@@ -22,9 +22,7 @@ pub fn curtailable(service: Service, figures: &Figures) -> SignedTenths<3_000>
 {
     let told = telemetered(service, figures);
     let shed = figures.npf.value as i32 - figures.lpc.value as i32;
-    if shed < told.value {
-        SignedTenths { value: shed }
-    } else {
-        told
+    SignedTenths {
+        value: shed.min(told.value),
     }
 }

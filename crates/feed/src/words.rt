@@ -8,7 +8,7 @@ pub fn words_of(bytes: &[u8], words: &mut [u32]) -> usize
     ensures after { words.new ≡ take (length words.old) (words_of bytes.now) ++ drop result words.old }
 {
     let (whole, _) = bytes.as_chunks();
-    // no `zip` with the fours: nothing is proved of what an adapter of `iter_mut` wrote
+    // no `zip` with the fours: nothing is known of the words after a loop over `iter_mut().zip(..)`, `after` stays open
     for (made, word) in words.iter_mut().enumerate() {
         let Some(four) = whole.get(made) else {
             return made;

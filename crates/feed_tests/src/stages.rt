@@ -1,7 +1,12 @@
 // Feeds one after the other: what came before a fault stays in force, and an open draft turns a feed away.
+ghost use Rattle.std.specs.Prelude.{IfOk};
+ghost use Rattle.feed_tests.specs.Open.{Takes};
+
 use crate::feeds::SAMPLE;
 use book::book::Book;
+use book::draft::Draft;
 use editions::before_nprr1149::BeforeNprr1149;
+use editions::edition::Edition;
 use feed::feed::feed;
 use running::slots::Slots;
 use std::test::Fail;
@@ -26,15 +31,29 @@ fn earlier_groups_stay(rt: HostRuntime) {
     assert_eq!(rt; feed(&mut book, &SAMPLE), Ok(6));
 }
 
-// What a feed answers while a draft is open, which is dropped afterwards.
-fn fed_while_drafted(book: &mut Book) -> Result<Result<usize, Fault>, Refusal> {
-    let draft = book.draft(&BeforeNprr1149)?;
-    let answer = feed(book, &SAMPLE);
+// Takes a draft, which this book then takes back.
+fn draft_under<E: Edition>(book: &mut Book, edition: &E) -> Result<Draft, Refusal>
+    ensures takes { IfOk result (λ d. Takes book.new d) }
+{
+    book.draft(edition)
+}
+
+// Drops a draft that the book takes.
+fn drop_open(book: &mut Book, draft: Draft)
+    requires takes { Takes book.old draft }
+{
     match book.drop(draft) {
-        Ok(()) => Ok(answer),
-        // a feed leaves the draft open and the book its number
+        Ok(()) => {}
         Err(_) => unreachable(),
     }
+}
+
+// What a feed answers while a draft is open, which is dropped afterwards.
+fn fed_while_drafted(book: &mut Book) -> Result<Result<usize, Fault>, Refusal> {
+    let draft = draft_under(book, &BeforeNprr1149)?;
+    let answer = feed(book, &SAMPLE);
+    drop_open(book, draft);
+    Ok(answer)
 }
 
 #[test]

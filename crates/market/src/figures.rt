@@ -29,32 +29,17 @@ impl TryFrom<&BareFigures> for Figures {
     ghost try_from_gives = { λ bare answer. plainly bare_figures answer ≡ if_within (figures_within bare.now) bare.now };
 
     fn try_from(bare: &BareFigures) -> Result<Figures, Refusal> {
-        const MOST: u32 = 3_000;
         let told = bare.telemetered;
-        if told.up > MOST
-            || told.down > MOST
-            || told.responsive > MOST
-            || told.nonspin > MOST
-            || told.ecrs > MOST
-            || bare.npf > MOST
-            || bare.lpc > MOST
-        {
-            return Err(Refusal::FigureOutOfRange);
-        }
         Ok(Figures {
             telemetered: ByService {
-                up: Tenths { value: told.up },
-                down: Tenths { value: told.down },
-                responsive: Tenths {
-                    value: told.responsive,
-                },
-                nonspin: Tenths {
-                    value: told.nonspin,
-                },
-                ecrs: Tenths { value: told.ecrs },
+                up: Tenths::try_from(told.up)?,
+                down: Tenths::try_from(told.down)?,
+                responsive: Tenths::try_from(told.responsive)?,
+                nonspin: Tenths::try_from(told.nonspin)?,
+                ecrs: Tenths::try_from(told.ecrs)?,
             },
-            npf: Tenths { value: bare.npf },
-            lpc: Tenths { value: bare.lpc },
+            npf: Tenths::try_from(bare.npf)?,
+            lpc: Tenths::try_from(bare.lpc)?,
         })
     }
 }

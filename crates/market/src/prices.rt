@@ -49,14 +49,10 @@ impl TryFrom<&BareServicePrices> for ServicePrices {
     ghost try_from_gives = { λ bare answer. plainly bare_service_prices answer ≡ if_within (service_prices_within bare.now) bare.now };
 
     fn try_from(bare: &BareServicePrices) -> Result<ServicePrices, Refusal> {
-        const MOST: u32 = 1_000_000;
-        if bare.dam > MOST || bare.sasm > MOST || bare.rsasm > MOST {
-            return Err(Refusal::FigureOutOfRange);
-        }
         Ok(ServicePrices {
-            dam: CentsPerMw { value: bare.dam },
-            sasm: CentsPerMw { value: bare.sasm },
-            rsasm: CentsPerMw { value: bare.rsasm },
+            dam: CentsPerMw::try_from(bare.dam)?,
+            sasm: CentsPerMw::try_from(bare.sasm)?,
+            rsasm: CentsPerMw::try_from(bare.rsasm)?,
         })
     }
 }
@@ -68,21 +64,15 @@ impl TryFrom<&BareIntervalPrices> for IntervalPrices {
     ghost try_from_gives = { λ bare answer. plainly bare_interval_prices answer ≡ if_within (interval_prices_within bare.now) bare.now };
 
     fn try_from(bare: &BareIntervalPrices) -> Result<IntervalPrices, Refusal> {
-        const MOST: u32 = 500_000;
-        if bare.rtrsvpor > MOST || bare.rtrdp > MOST {
-            return Err(Refusal::FigureOutOfRange);
-        }
         Ok(IntervalPrices {
-            rtrsvpor: CentsPerMwh {
-                value: bare.rtrsvpor,
-            },
-            rtrdp: CentsPerMwh { value: bare.rtrdp },
+            rtrsvpor: CentsPerMwh::try_from(bare.rtrsvpor)?,
+            rtrdp: CentsPerMwh::try_from(bare.rtrdp)?,
         })
     }
 }
 
 impl Prices {
-    // An hour with every price 0.
+    // An hour with every price 0. No `Default`, which is not derived over ghost fields.
     pub fn none() -> Prices
         ensures answer { bare_prices result ≡ no_prices }
     {

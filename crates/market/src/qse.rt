@@ -35,9 +35,7 @@ impl TryFrom<&QseRow> for Qse {
 
     fn try_from(row: &QseRow) -> Result<Qse, Refusal> {
         let number = QseNumber::try_from(row.number)?;
-        if row.load > 20_000 {
-            return Err(Refusal::FigureOutOfRange);
-        }
+        let load = Mwh::try_from(row.load)?;
         let up = Quantities::try_from(&row.quantities.up)?;
         let down = Quantities::try_from(&row.quantities.down)?;
         let responsive = Quantities::try_from(&row.quantities.responsive)?;
@@ -45,7 +43,7 @@ impl TryFrom<&QseRow> for Qse {
         let ecrs = Quantities::try_from(&row.quantities.ecrs)?;
         Ok(Qse {
             number,
-            load: Mwh { value: row.load },
+            load,
             quantities: ByService {
                 up,
                 down,

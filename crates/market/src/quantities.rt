@@ -41,32 +41,19 @@ impl TryFrom<&BareQuantities> for Quantities {
 
     ghost try_from_gives = { λ bare answer. plainly bare_quantities answer ≡ if_within (quantities_within bare.now) bare.now };
 
+    #[tactic(auto, unfolding(crate::specs::Limits::quantities_within))]
     fn try_from(bare: &BareQuantities) -> Result<Quantities, Refusal> {
-        const MOST: u32 = 20_000;
-        if bare.dasa > MOST
-            || bare.rtsa > MOST
-            || bare.trs > MOST
-            || bare.rtpc > MOST
-            || bare.pc > MOST
-            || bare.ruc > MOST
-            || bare.trp > MOST
-            || bare.fq > MOST
-            || bare.rfq > MOST
-            || bare.inf > MOST
-        {
-            return Err(Refusal::FigureOutOfRange);
-        }
         Ok(Quantities {
-            dasa: Tenths { value: bare.dasa },
-            rtsa: Tenths { value: bare.rtsa },
-            trs: Tenths { value: bare.trs },
-            rtpc: Tenths { value: bare.rtpc },
-            pc: Tenths { value: bare.pc },
-            ruc: Tenths { value: bare.ruc },
-            trp: Tenths { value: bare.trp },
-            fq: Tenths { value: bare.fq },
-            rfq: Tenths { value: bare.rfq },
-            inf: Tenths { value: bare.inf },
+            dasa: Tenths::try_from(bare.dasa)?,
+            rtsa: Tenths::try_from(bare.rtsa)?,
+            trs: Tenths::try_from(bare.trs)?,
+            rtpc: Tenths::try_from(bare.rtpc)?,
+            pc: Tenths::try_from(bare.pc)?,
+            ruc: Tenths::try_from(bare.ruc)?,
+            trp: Tenths::try_from(bare.trp)?,
+            fq: Tenths::try_from(bare.fq)?,
+            rfq: Tenths::try_from(bare.rfq)?,
+            inf: Tenths::try_from(bare.inf)?,
         })
     }
 }

@@ -1,13 +1,30 @@
 // The units of the hour, each with its limit in the type: a number beyond it cannot exist.
-// Each unit is a type of its own. One type generic in the unit would be no plainer: beside a ghost field `Clone` is not
-// derived for a type parameter ("derive-over-ghost-field"), and each literal would name a marker beside its figure.
-ghost use Rattle.std.specs.Prelude.{◌≤◌, pos, neg_ℤ, ◌≤ℤ◌};
+// Each unit is a type of its own, with its `TryFrom`. One type generic in the unit would be no plainer: beside a ghost
+// field `Clone` is not derived for a type parameter ("derive-over-ghost-field"), and each literal would name a marker.
+ghost use Rattle.std.specs.Prelude.{◌≡◌, ◌≤◌, pos, neg_ℤ, ◌≤ℤ◌, nat_le};
+ghost use Rattle.market.specs.Answers.{plainly, if_within};
+
+use terms::refusal::Refusal;
 
 // Tenths of a MW.
 #[derive(Clone, Copy)]
 pub struct Tenths<const MAX: u32> {
     pub value: u32,
     ghost within: { value ≤ MAX },
+}
+
+impl<const MAX: u32> TryFrom<u32> for Tenths<MAX> {
+    type Error = Refusal;
+
+    ghost try_from_gives = { λ value answer. plainly (λ x. x.value) answer ≡ if_within (nat_le value MAX) value };
+
+    fn try_from(value: u32) -> Result<Tenths<MAX>, Refusal> {
+        if value <= MAX {
+            Ok(Tenths { value })
+        } else {
+            Err(Refusal::FigureOutOfRange)
+        }
+    }
 }
 
 // Tenths of a MW that may lie below zero.
@@ -25,11 +42,39 @@ pub struct CentsPerMw<const MAX: u32> {
     ghost within: { value ≤ MAX },
 }
 
+impl<const MAX: u32> TryFrom<u32> for CentsPerMw<MAX> {
+    type Error = Refusal;
+
+    ghost try_from_gives = { λ value answer. plainly (λ x. x.value) answer ≡ if_within (nat_le value MAX) value };
+
+    fn try_from(value: u32) -> Result<CentsPerMw<MAX>, Refusal> {
+        if value <= MAX {
+            Ok(CentsPerMw { value })
+        } else {
+            Err(Refusal::FigureOutOfRange)
+        }
+    }
+}
+
 // Cents per MWh.
 #[derive(Clone, Copy)]
 pub struct CentsPerMwh<const MAX: u32> {
     pub value: u32,
     ghost within: { value ≤ MAX },
+}
+
+impl<const MAX: u32> TryFrom<u32> for CentsPerMwh<MAX> {
+    type Error = Refusal;
+
+    ghost try_from_gives = { λ value answer. plainly (λ x. x.value) answer ≡ if_within (nat_le value MAX) value };
+
+    fn try_from(value: u32) -> Result<CentsPerMwh<MAX>, Refusal> {
+        if value <= MAX {
+            Ok(CentsPerMwh { value })
+        } else {
+            Err(Refusal::FigureOutOfRange)
+        }
+    }
 }
 
 // Quarters of a cent per MW for the hour: what four 15-minute prices in cents per MWh add up to.
@@ -44,6 +89,20 @@ pub struct QuarterCentsPerMw<const MAX: u32> {
 pub struct Mwh<const MAX: u32> {
     pub value: u32,
     ghost within: { value ≤ MAX },
+}
+
+impl<const MAX: u32> TryFrom<u32> for Mwh<MAX> {
+    type Error = Refusal;
+
+    ghost try_from_gives = { λ value answer. plainly (λ x. x.value) answer ≡ if_within (nat_le value MAX) value };
+
+    fn try_from(value: u32) -> Result<Mwh<MAX>, Refusal> {
+        if value <= MAX {
+            Ok(Mwh { value })
+        } else {
+            Err(Refusal::FigureOutOfRange)
+        }
+    }
 }
 
 // Cents.

@@ -11,7 +11,7 @@ use terms::service::Service;
 fn is_numeral(field: &str) -> bool
     ensures answer { result ≡ is_numeral field.now }
 {
-    // a loop, since the goal that `all` leaves takes more lemmas than this
+    // a loop, since with `all` the goal `returns-then-not-is_empty` stays open
     for byte in field.as_bytes() {
         if !byte.is_ascii_digit() {
             return false;
@@ -52,7 +52,7 @@ impl FromStr for Figure {
     }
 }
 
-// The service whose letter a field is.
+// The service whose letter a field is. A function and no `FromStr`, since neither the trait nor the type is this crate's.
 pub fn service(field: &str) -> Result<Service, Wrong>
     ensures answer { result ≡ service_of_field field.now }
 {

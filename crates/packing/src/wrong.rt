@@ -1,33 +1,25 @@
 // What can be wrong with a line.
-use std::fmt;
+use thiserror::Error;
 
 // Why a line cannot be read.
-#[derive(Clone, Copy, PartialEq, Eq, Debug)]
+#[derive(Clone, Copy, PartialEq, Eq, Debug, Error)]
 pub enum Wrong {
     // the first field names no group
+    #[error("no group has this name")]
     UnknownGroup,
     // fewer fields than the group has
+    #[error("too few fields")]
     MissingField,
     // more fields than the group has
+    #[error("too many fields")]
     ExtraField,
     // a field that is not digits alone where a figure stands
+    #[error("a figure is written in digits alone")]
     NotANumber,
     // a figure of more than 28 bits
+    #[error("a figure is at most 268435455")]
     TooLarge,
     // a field that is no service's letter where one stands
+    #[error("a service is U, D, R, N or E")]
     NotALetter,
-}
-
-// The reason in plain words.
-impl fmt::Display for Wrong {
-    fn fmt<W: fmt::Write>(&self, f: &mut fmt::Formatter<W>) -> fmt::Result {
-        f.write_str(match self {
-            Wrong::UnknownGroup => "no group has this name",
-            Wrong::MissingField => "too few fields",
-            Wrong::ExtraField => "too many fields",
-            Wrong::NotANumber => "a figure is written in digits alone",
-            Wrong::TooLarge => "a figure is at most 268435455",
-            Wrong::NotALetter => "a service is U, D, R, N or E",
-        })
-    }
 }

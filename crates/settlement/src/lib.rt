@@ -4,5 +4,4 @@
 
 pub mod billing;
 mod hour;
-pub mod settling;
 pub mod tables;

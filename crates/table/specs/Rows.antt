@@ -46,3 +46,8 @@ fits num capacity n rows = known num n rows || nat_lt (length rows) capacity
 abbrev pub removed : {R : Type 0} → (R → ℕ) → ℕ → List R → List R
 removed num n [] = []
 removed num n (r ∷ rs) = cond (num r == n) rs (r ∷ removed num n rs)
+
+-- the rows changed one after the other, from a place on
+abbrev pub revised : {R : Type 0} → (ℕ → R → R) → ℕ → List R → List R
+revised change place [] = []
+revised change place (r ∷ rs) = change place r ∷ revised change (suc place) rs

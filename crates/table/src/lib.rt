@@ -8,8 +8,10 @@
 #![tactic(auto)]
 
 pub mod numbered;
+pub mod revision;
 pub mod slots;
 pub mod table;
 
 pub use numbered::Numbered;
+pub use revision::Revision;
 pub use table::{Absent, Full, Misplaced, Table};

@@ -1,14 +1,15 @@
 // What a table does with the slots that its caller lends: finds a number in them, and makes and closes gaps.
-ghost use Rattle.std.specs.Prelude.{◌≡◌, ◌+◌, ◌-◌, ◌<◌, ◌≤◌, length, take, MatchResult};
+ghost use Rattle.std.specs.Prelude.{◌≡◌, ◌+◌, ◌-◌, ◌<◌, ◌≤◌, map, length, take, MatchResult};
 ghost use Rattle.std.specs.List.{insert, remove};
-ghost use Rattle.table.specs.Rows.{Rising, located};
+ghost use Rattle.table.specs.Rows.{Rising, AllSound, located, revised};
 
 use crate::numbered::Numbered;
+use crate::revision::Revision;
 
 // Where the row of a number stands, or else where it belongs.
 // 256 rows take eight halvings, and then one look at the row that is left.
-// By hand, since a look-up by std's `binary_search_by_key` takes 99 instructions there, one by `partition_point` 102, and
-// this one 88 (by callgrind, mean of 10,000,000).
+// By hand, since it is asked for each resource in each service, where an instruction counts: std's `binary_search_by_key`
+// takes 99 there, `partition_point` 102, and this one 88 (by callgrind, mean of 10,000,000).
 pub fn locate<R: Numbered>(held: &[R], number: u32) -> Result<usize, usize>
     ensures answer { Rising R.Numbered.number held.now → result ≡ located R.Numbered.number number held.now }
     ensures within { MatchResult result (λ i. i < length held.now) (λ i. i ≤ length held.now) }
@@ -36,6 +37,7 @@ pub fn locate<R: Numbered>(held: &[R], number: u32) -> Result<usize, usize>
 }
 
 // Puts a row at a place: each of the `used` rows from there on moves one slot up.
+// The slots and how many of them are used, since the slots are lent: a vector would own them.
 pub(crate) fn insert<R: Copy>(slots: &mut [R], used: usize, place: usize, row: R)
     requires place { place ≤ used }
     requires free { used < length slots.old }
@@ -52,4 +54,15 @@ pub(crate) fn strike<R: Copy>(slots: &mut [R], used: usize, place: usize)
     ensures after { take (used - 1) slots.new ≡ remove (take used slots.old) place }
 {
     slots.copy_within(place + 1..used, place);
+}
+
+// Changes each of the `used` rows in place.
+pub(crate) fn revise_each<R: Numbered, V: Revision<R>>(revision: &V, slots: &mut [R], used: usize)
+    requires within { used ≤ length slots.old }
+    ensures after { AllSound R.Numbered.sound (take used slots.old) → take used slots.new ≡ revised (V.Revision.revised revision.now) 0 (take used slots.old) }
+    ensures numbers { map R.Numbered.number (take used slots.new) ≡ map R.Numbered.number (take used slots.old) }
+{
+    for (place, row) in slots[0..used].iter_mut().enumerate() {
+        revision.revise(place, row);
+    }
 }

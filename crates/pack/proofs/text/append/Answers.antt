@@ -1,10 +1,7 @@
-use Rattle.std.proofs.Common.{ℕ, List, ◌++◌, vec_items, sym, ap, ◌∙◌, append-nil, take_all}
+use Rattle.std.proofs.Common.{ℕ, List, ◌++◌, vec_items, ap, ◌∙◌, take_all}
 use Rattle.packing.specs.Bytes.{bytes_of}
 use Rattle.packing.proofs.Joined.{bytes_more}
 use Rattle.pack.proofs.text.append.Goals as goal
-
-pub loop-word-init : goal.loop-word-init
-loop-word-init c = sym (append-nil (vec_items c.args.bytes.now))
 
 pub loop-word-preserved : goal.loop-word-preserved
 loop-word-preserved c =

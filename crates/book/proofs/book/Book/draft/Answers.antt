@@ -11,7 +11,7 @@ returns-then-self g c = record { called = called_refused (view c.args.self.now) 
 pub invariant_of-self : goal.invariant_of-self
 invariant_of-self g c =
     let b = c.args.self.now in
-    record { accounting = c.settle_table.ensures.sound b.accounting b.few_qses b.resourcing b.few_resources; resourcing = b.resourcing; keeping = c.settle_table.ensures.kept b.accounting b.few_qses b.resourcing b.few_resources b.keeping; few_qses = omega (arith, b.few_qses, c.settle_table.ensures.capacity); few_resources = b.few_resources }
+    record { accounting = (c.settle_table.ensures.sound b.accounting).2; resourcing = b.resourcing; keeping = c.settle_table.ensures.kept b.keeping; few_qses = omega (arith, b.few_qses, c.settle_table.ensures.capacity); few_resources = b.few_resources }
 
 pub returns : goal.returns
 returns g c =

@@ -1,0 +1,9 @@
+use Rattle.std.proofs.Common.{◌≡◌, ◌++◌, map, take, drop}
+use Rattle.table.specs.Rows.{AllSound, revised}
+use Rattle.table.proofs.slots.revise_each.Given as goal
+
+-- every row has its number, and of sound rows those before the place are changed
+abbrev pub invariant-loop-place : goal.invariant-loop-place
+invariant-loop-place g l =
+    (map g.R.Numbered.number l.row-items ≡ map g.R.Numbered.number l.initial.row-items)
+    × (AllSound g.R.Numbered.sound l.initial.row-items → l.row-items ≡ revised (g.V.Revision.revised l.revision) 0 (take l.place l.initial.row-items) ++ drop l.place l.initial.row-items)

@@ -1,9 +1,10 @@
 // The book of one Operating Hour, over slots that its caller lends.
 ghost use Rattle.std.specs.Prelude.{◌≤◌};
 ghost use Rattle.history.specs.Accounts.{account_sound, account_kept};
+ghost use Rattle.history.specs.Calls.{qse_of, resource_of};
 ghost use Rattle.market.specs.Limits.{resource_sound};
 ghost use Rattle.table.specs.Rows.{AllSound};
-ghost use Rattle.table.specs.Tables.{rows, capacity};
+ghost use Rattle.table.specs.Tables.{Sound, rows, capacity};
 
 use history::account::Account;
 use market::prices::Prices;
@@ -19,9 +20,9 @@ pub struct Book<'a> {
     // two flags and no enum of four stages, which would be no plainer: a call looks at one of them alone
     pub(crate) drafted: bool,
     pub(crate) issued: bool,
-    // rows keep their limits; that they rise in number is the tables' own
-    ghost accounting: { AllSound account_sound (rows accounts) },
-    ghost resourcing: { AllSound resource_sound (rows resources) },
+    // rows lie within the slots, rise in number and keep their limits
+    ghost accounting: { Sound qse_of account_sound accounts },
+    ghost resourcing: { Sound resource_of resource_sound resources },
     // and accounts have only what drafts settled and statements said
     ghost keeping: { AllSound account_kept (rows accounts) },
     // slots beyond 64 and 256 go unused

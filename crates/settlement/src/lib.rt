@@ -4,4 +4,5 @@
 
 pub mod billing;
 mod hour;
+pub mod settling;
 pub mod tables;

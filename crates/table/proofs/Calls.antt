@@ -1,14 +1,15 @@
 -- What each call of a table answers and leaves, over the lists of its slots and rows.
-use Rattle.std.proofs.Common.{◌≡◌, ℕ, ◌+◌, ◌-◌, ◌<◌, true, false, List, length, get_or, take, set, Some, None, Ok, Err, Option, Result, sym, refl, ◌∙◌, arith, length-take}
+use Rattle.std.proofs.Common.{◌≡◌, ℕ, ◌+◌, ◌-◌, ◌<◌, ◌≤◌, Bool, true, false, List, length, get_or, take, set, Some, None, Ok, Err, Option, Result, sym, refl, ◌∙◌, arith, length-take}
 use Rattle.std.proofs.Math.Seq.{take-set-lt}
 use Rattle.std.proofs.lemmas.List.{get_or-take}
 use Rattle.std.proofs.lemmas.Option.{slice_get_read}
 use Rattle.std.proofs.lemmas.Bool.Decides.{nat_tests}
 use Rattle.std.specs.List as holes
 use Rattle.std.specs.List.{slice_get}
-use Rattle.table.specs.Rows.{Rising, located, put, removed, fits, holds}
+use Rattle.table.specs.Rows.{Rising, AllSound, located, put, removed, fits, holds}
 use Rattle.table.proofs.Halving.{located_at, number_read}
-use Rattle.table.proofs.Places.{known_from_ok, rank_within, put_at, put_between, removed_at}
+use Rattle.table.proofs.Laws.{rising_put, rising_removed, sound_put, sound_removed}
+use Rattle.table.proofs.Places.{known_from_ok, new_from_err, rank_within, put_at, put_between, removed_at}
 use Rattle.table.proofs.Shift.{taken_length}
 
 module _ {R : Type 0} (num : R → ℕ) where
@@ -23,6 +24,9 @@ module _ {R : Type 0} (num : R → ℕ) where
 
   pub fits_free : (cap : ℕ) (x : R) (rows : List R) → length rows < cap → fits num cap (num x) rows ≡ true
   fits_free cap x rows h = grind (arith, nat_tests)
+
+  pub fits_full : (cap : ℕ) (x : R) (rows : List R) (i : ℕ) → cap ≤ length rows → located num (num x) rows ≡ Err i → fits num cap (num x) rows ≡ false
+  fits_full cap x rows i h e = let k = (new_from_err num (num x) rows i e).0 in grind (arith, nat_tests)
 
   -- a row written over that of its number
   pub overwritten : (xs : List R) (len i : ℕ) (x : R) → Rising num (take len xs) → located num (num x) (take len xs) ≡ Ok i → take len (set xs i x) ≡ put num x (take len xs)
@@ -58,3 +62,10 @@ module _ {R : Type 0} (num : R → ℕ) where
 
   pub holds_none : (n : ℕ) (o : Option R) → o ≡ None → holds num n o ≡ false
   holds_none n o e = grind arith
+
+module _ {R : Type 0} (num : R → ℕ) (sound : R → Bool) where
+  pub sound_from_put : (rows on : List R) (x : R) → on ≡ put num x rows → Rising num rows → AllSound sound rows → sound x ≡ true → Rising num on × AllSound sound on
+  sound_from_put rows on x e up a p = rw e (rising_put num x rows up, sound_put num sound x rows p a)
+
+  pub sound_from_removed : (rows on : List R) (n : ℕ) → on ≡ removed num n rows → Rising num rows → AllSound sound rows → Rising num on × AllSound sound on
+  sound_from_removed rows on n e up a = rw e (rising_removed num n rows up, sound_removed num sound n rows a)

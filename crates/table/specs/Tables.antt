@@ -1,20 +1,26 @@
 -- A table as the list of its rows.
-use Rattle.std.specs.Prelude.{ℕ, ◌≤◌, Bool, List, length}
+use Rattle.std.specs.Prelude.{ℕ, ◌≤◌, Bool, List, length, take}
 use Rattle.table.specs.Rows.{Rising, AllSound}
 use Rattle.table.specs.declared.table.Absent.{Absent}
 use Rattle.table.specs.declared.table.Full.{Full}
 use Rattle.table.specs.declared.table.Misplaced.{Misplaced}
+use Rattle.table.specs.declared.table.Table.{Table}
 
--- what a table is seen as: the rows in use, and how many fit
-abbrev pub rows : {R : Type 0} → List R × ℕ → List R
-rows t = t.0
+-- the rows in use
+abbrev pub rows : {R : Type 0} → Table R → List R
+rows t = take t.len t.slots.now
 
-abbrev pub capacity : {R : Type 0} → List R × ℕ → ℕ
-capacity t = t.1
+-- how many rows fit
+abbrev pub capacity : {R : Type 0} → Table R → ℕ
+capacity t = length t.slots.now
 
--- what a table of sound rows keeps
-abbrev pub Sound : {R : Type 0} → (R → ℕ) → (R → Bool) → List R × ℕ → Type 0
-Sound num sound t = (length (rows t) ≤ capacity t) × Rising num (rows t) × AllSound sound (rows t)
+-- the part in use lies within the slots
+abbrev pub Within : {R : Type 0} → Table R → Type 0
+Within t = t.len ≤ capacity t
+
+-- what a table keeps: its rows lie within its slots, their numbers rise, and each is sound
+abbrev pub Sound : {R : Type 0} → (R → ℕ) → (R → Bool) → Table R → Type 0
+Sound num sound t = Within t × Rising num (rows t) × AllSound sound (rows t)
 
 -- what a refused call answers
 abbrev pub full : Full

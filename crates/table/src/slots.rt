@@ -1,4 +1,4 @@
-// What a table does with the slots that its caller lends: finds a number in them, and makes and closes gaps.
+// What a table does with the slots that its caller lends: finds a number in them, makes and closes gaps, changes each row.
 ghost use Rattle.std.specs.Prelude.{◌≡◌, ◌+◌, ◌-◌, ◌<◌, ◌≤◌, map, length, take, MatchResult};
 ghost use Rattle.std.specs.List.{insert, remove};
 ghost use Rattle.table.specs.Rows.{Rising, AllSound, located, revised};
@@ -56,13 +56,12 @@ pub(crate) fn strike<R: Copy>(slots: &mut [R], used: usize, place: usize)
     slots.copy_within(place + 1..used, place);
 }
 
-// Changes each of the `used` rows in place.
-pub(crate) fn revise_each<R: Numbered, V: Revision<R>>(revision: &V, slots: &mut [R], used: usize)
-    requires within { used ≤ length slots.old }
-    ensures after { AllSound R.Numbered.sound (take used slots.old) → take used slots.new ≡ revised (V.Revision.revised revision.now) 0 (take used slots.old) }
-    ensures numbers { map R.Numbered.number (take used slots.new) ≡ map R.Numbered.number (take used slots.old) }
+// Changes each row in place.
+pub fn revise_each<R: Numbered, V: Revision<R>>(revision: &V, rows: &mut [R])
+    ensures after { AllSound R.Numbered.sound rows.old → rows.new ≡ revised (V.Revision.revised revision.now) 0 rows.old }
+    ensures numbers { map R.Numbered.number rows.new ≡ map R.Numbered.number rows.old }
 {
-    for (place, row) in slots[0..used].iter_mut().enumerate() {
+    for (place, row) in rows.iter_mut().enumerate() {
         revision.revise(place, row);
     }
 }

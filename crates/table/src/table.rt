@@ -1,6 +1,6 @@
 // A table of rows over the caller's slots. The first `len` slots hold the rows, in rising order of number;
-// what the others hold is never read. No call asks anything of its caller. That rows have their figures within
-// limits (`AllSound`) is for a struct around the table to keep as its own.
+// what the others hold is never read. No call asks anything of its caller: what holds only where the rows rise is
+// promised under that premise, and a struct around the table keeps it (`Sound`) as a fact of its own.
 ghost use Rattle.std.specs.Prelude.{◌≡◌, ◌-◌, ◌≤◌, min, true, [], map, length, if◌then◌else◌, Some, None, Ok, Err, IfSome};
 ghost use Rattle.std.specs.List.{slice_get};
 ghost use Rattle.table.specs.Rows.{Rising, AllSound, found, known, rank, holds, fits, put, removed, revised};
@@ -9,28 +9,15 @@ ghost use Rattle.table.specs.Tables.{rows, capacity, Sound, full, absent, mispla
 use crate::numbered::Numbered;
 use crate::revision::Revision;
 use crate::slots::{insert, locate, revise_each, strike};
-use std::marker::Model;
 use thiserror::Error;
 
 // Rows in rising order of number, in slots that the caller lends. A buffer with a length beside it, since a library
-// here allocates nothing.
+// here allocates nothing. The fields are public and the type keeps no invariant: who has rows in slots makes a table of
+// them, and a narrower type would ask more of such a caller.
 #[derive(Drop)]
-pub struct Table<'a, R: Numbered> {
-    slots: &'a mut [R],
-    len: usize,
-}
-
-// Seen as its rows and how many fit.
-impl<'a, R: Numbered> Model for Table<'a, R> {
-    ghost use Rattle.std.specs.Prelude.{ℕ, List, ◌≤◌, length, take};
-    ghost use Rattle.table.specs.Rows.{Rising};
-
-    ghost Value = { List R × ℕ };
-
-    ghost view = { λ t. (take t.len t.slots.now, length t.slots.now) };
-
-    // The rows lie within the slots, and their numbers rise.
-    ghost invariant = { λ t. (t.len ≤ length t.slots.now) × Rising R.Numbered.number (take t.len t.slots.now) };
+pub struct Table<'a, R> {
+    pub slots: &'a mut [R],
+    pub len: usize,
 }
 
 // The number is new, and every usable slot holds a row.
@@ -66,9 +53,9 @@ impl<'a, R: Numbered> Table<'a, R> {
     pub fn as_slice(&self) -> &[R]
         ensures answer { result.now ≡ rows self.now }
         ensures within { length result.now ≤ capacity self.now }
-        ensures rising { Rising R.Numbered.number result.now }
     {
-        &self.slots[0..self.len]
+        let used = self.len.min(self.slots.len());
+        &self.slots[0..used]
     }
 
     // How many rows there are.
@@ -88,8 +75,8 @@ impl<'a, R: Numbered> Table<'a, R> {
 
     // The place of the row of a number, if there is one.
     pub fn find(&self, number: u32) -> Option<usize>
-        ensures answer { result ≡ (if known R.Numbered.number number (rows self.now) then Some (rank R.Numbered.number number (rows self.now)) else None) }
-        ensures there { IfSome result (λ place. holds R.Numbered.number number (slice_get (rows self.now) place) ≡ true) }
+        ensures answer { Rising R.Numbered.number (rows self.now) → result ≡ (if known R.Numbered.number number (rows self.now) then Some (rank R.Numbered.number number (rows self.now)) else None) }
+        ensures there { Rising R.Numbered.number (rows self.now) → IfSome result (λ place. holds R.Numbered.number number (slice_get (rows self.now) place) ≡ true) }
     {
         locate(self.as_slice(), number).ok()
     }
@@ -103,7 +90,7 @@ impl<'a, R: Numbered> Table<'a, R> {
 
     // The row of a number, if there is one.
     pub fn get(&self, number: u32) -> Option<R>
-        ensures answer { result ≡ found R.Numbered.number number (rows self.now) }
+        ensures answer { Rising R.Numbered.number (rows self.now) → result ≡ found R.Numbered.number number (rows self.now) }
     {
         let held = self.as_slice();
         let there = locate(held, number).ok()?;
@@ -113,9 +100,9 @@ impl<'a, R: Numbered> Table<'a, R> {
     // Puts a row in its place, or in the place of the row of its number.
     // Refused exactly where the number is new and no usable slot is free; the rows are then as they were.
     pub fn put(&mut self, row: R) -> Result<(), Full>
-        ensures answer { result ≡ (if fits R.Numbered.number (capacity self.old) (R.Numbered.number row) (rows self.old) then Ok tt else Err full) }
-        ensures after { rows self.new ≡ (if fits R.Numbered.number (capacity self.old) (R.Numbered.number row) (rows self.old) then put R.Numbered.number row (rows self.old) else rows self.old) }
-        ensures sound { AllSound R.Numbered.sound (rows self.old) → R.Numbered.sound row ≡ true → Sound R.Numbered.number R.Numbered.sound self.new }
+        ensures answer { Rising R.Numbered.number (rows self.old) → result ≡ (if fits R.Numbered.number (capacity self.old) (R.Numbered.number row) (rows self.old) then Ok tt else Err full) }
+        ensures after { Rising R.Numbered.number (rows self.old) → rows self.new ≡ (if fits R.Numbered.number (capacity self.old) (R.Numbered.number row) (rows self.old) then put R.Numbered.number row (rows self.old) else rows self.old) }
+        ensures sound { Sound R.Numbered.number R.Numbered.sound self.old → R.Numbered.sound row ≡ true → Sound R.Numbered.number R.Numbered.sound self.new }
         ensures capacity { capacity self.new ≡ capacity self.old }
     {
         let used = self.len();
@@ -136,9 +123,9 @@ impl<'a, R: Numbered> Table<'a, R> {
     // Takes the row of a number out, and its slot serves the next entry.
     // Refused exactly where no row has the number; the rows are then as they were.
     pub fn remove(&mut self, number: u32) -> Result<(), Absent>
-        ensures answer { result ≡ (if known R.Numbered.number number (rows self.old) then Ok tt else Err absent) }
-        ensures after { rows self.new ≡ removed R.Numbered.number number (rows self.old) }
-        ensures sound { AllSound R.Numbered.sound (rows self.old) → Sound R.Numbered.number R.Numbered.sound self.new }
+        ensures answer { Rising R.Numbered.number (rows self.old) → result ≡ (if known R.Numbered.number number (rows self.old) then Ok tt else Err absent) }
+        ensures after { Rising R.Numbered.number (rows self.old) → rows self.new ≡ removed R.Numbered.number number (rows self.old) }
+        ensures sound { Sound R.Numbered.number R.Numbered.sound self.old → Sound R.Numbered.number R.Numbered.sound self.new }
         ensures capacity { capacity self.new ≡ capacity self.old }
     {
         let used = self.len();
@@ -154,8 +141,8 @@ impl<'a, R: Numbered> Table<'a, R> {
     // Refused exactly where the place holds no row of that number; the rows are then as they were.
     pub fn update(&mut self, place: usize, row: R) -> Result<(), Misplaced>
         ensures answer { result ≡ (if holds R.Numbered.number (R.Numbered.number row) (slice_get (rows self.old) place) then Ok tt else Err misplaced) }
-        ensures after { rows self.new ≡ (if holds R.Numbered.number (R.Numbered.number row) (slice_get (rows self.old) place) then put R.Numbered.number row (rows self.old) else rows self.old) }
-        ensures sound { AllSound R.Numbered.sound (rows self.old) → R.Numbered.sound row ≡ true → Sound R.Numbered.number R.Numbered.sound self.new }
+        ensures after { Rising R.Numbered.number (rows self.old) → rows self.new ≡ (if holds R.Numbered.number (R.Numbered.number row) (slice_get (rows self.old) place) then put R.Numbered.number row (rows self.old) else rows self.old) }
+        ensures sound { Sound R.Numbered.number R.Numbered.sound self.old → R.Numbered.sound row ≡ true → Sound R.Numbered.number R.Numbered.sound self.new }
         ensures capacity { capacity self.new ≡ capacity self.old }
     {
         if place < self.len() && self.slots[place].key() == row.key() {
@@ -170,9 +157,10 @@ impl<'a, R: Numbered> Table<'a, R> {
     pub fn revise<V: Revision<R>>(&mut self, revision: &V)
         ensures after { AllSound R.Numbered.sound (rows self.old) → rows self.new ≡ revised (V.Revision.revised revision.now) 0 (rows self.old) }
         ensures numbers { map R.Numbered.number (rows self.new) ≡ map R.Numbered.number (rows self.old) }
-        ensures sound { AllSound R.Numbered.sound (rows self.new) → Sound R.Numbered.number R.Numbered.sound self.new }
+        ensures sound { Sound R.Numbered.number R.Numbered.sound self.old → AllSound R.Numbered.sound (rows self.new) → Sound R.Numbered.number R.Numbered.sound self.new }
         ensures capacity { capacity self.new ≡ capacity self.old }
     {
-        revise_each(revision, self.slots, self.len);
+        let used = self.len();
+        revise_each(revision, &mut self.slots[0..used]);
     }
 }

@@ -1,17 +1,16 @@
 // Meters and stations in tables over the caller's slots.
-ghost use Rattle.table.specs.Rows.{AllSound};
-ghost use Rattle.table.specs.Tables.{rows};
-ghost use Rattle.table_tests.specs.Kinds.{meter_sound, station_sound};
+ghost use Rattle.table.specs.Tables.{Sound};
+ghost use Rattle.table_tests.specs.Kinds.{meter_number, meter_sound, station_number, station_sound};
 
 use crate::meter::Meter;
 use crate::station::Station;
 use table::Table;
 
-// No row has a figure past its limit. That rows rise in number is a fact of the tables.
+// Both tables keep their rows in order, and no row has a figure past its limit.
 #[derive(Drop)]
 pub struct Ledger<'a> {
     pub meters: Table<'a, Meter>,
     pub stations: Table<'a, Station>,
-    ghost metered: { AllSound meter_sound (rows meters) },
-    ghost stationed: { AllSound station_sound (rows stations) },
+    ghost metered: { Sound meter_number meter_sound meters },
+    ghost stationed: { Sound station_number station_sound stations },
 }

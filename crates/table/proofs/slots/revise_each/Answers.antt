@@ -1,5 +1,5 @@
 -- The next row is as it was, and takes its change.
-use Rattle.std.proofs.Common.{◌≡◌, ◌-◌, true, get_or, take, ap, ◌∙◌, add-one, arith}
+use Rattle.std.proofs.Common.{◌≡◌, true, get_or, ap, ◌∙◌, add-one, arith}
 use Rattle.std.proofs.Math.Seq.{map-set_same}
 use Rattle.table.proofs.Revising.{revised_more, next_kept, sound_here}
 use Rattle.table.proofs.slots.revise_each.Goals as goal
@@ -7,10 +7,10 @@ use Rattle.table.proofs.slots.revise_each.Goals as goal
 pub loop-place-preserved : goal.loop-place-preserved
 loop-place-preserved g c =
     let change = g.V.Revision.revised c.args.revision.now in
-    let xs = take (c.args.used - 0) c.args.slots.now in
-    let ys = c.loop-place.row-items in
+    let xs = c.args.rows.now in
+    let ys = c.loop-place.rows in
     let i = c.loop-place.place in
-    let d = c.row-item.result in (
+    let d = c.index-rows-place.result in (
       map-set_same g.R.Numbered.number ys i c.revise.new.row d c.revise.ensures.number ∙ c.loop-place.invariant.0,
       (λ s.
           let v = c.loop-place.invariant.1 s in

@@ -22,20 +22,20 @@ pub invariant_of-self : goal.invariant_of-self
 invariant_of-self c =
     let b = c.args.self.now in
     let t = c.in_ok-tested_enrol.ensures.tested in
-    let found = c.get.ensures.answer in
+    let found = c.get.ensures.answer b.accounting.1 in
     let made = c.enrolled-account.ensures.answer in
-    let sound = enrolled_sound c.args.qse c.args.load (rows b.accounts) c.get.result found b.accounting t.1.0 t.1.1 in
+    let sound = enrolled_sound c.args.qse c.args.load (rows b.accounts) c.get.result found b.accounting.2 t.1.0 t.1.1 in
     let kept = enrolled_kept c.args.qse c.args.load (rows b.accounts) c.get.result found b.keeping sound in
-    record { accounting = (c.put.ensures.sound b.accounting (ap account_sound made ∙ sound)).2; resourcing = b.resourcing; keeping = put_kept c.enrolled-account.result _ (rows b.accounts) _ c.put.ensures.after b.keeping (ap account_kept made ∙ kept); few_qses = omega (arith, c.put.ensures.capacity, b.few_qses); few_resources = b.few_resources }
+    record { accounting = c.put.ensures.sound b.accounting (ap account_sound made ∙ sound); resourcing = b.resourcing; keeping = put_kept c.enrolled-account.result _ (rows b.accounts) _ (c.put.ensures.after b.accounting.1) b.keeping (ap account_kept made ∙ kept); few_qses = omega (arith, c.put.ensures.capacity, b.few_qses); few_resources = b.few_resources }
 
 pub returns-in-Ok : goal.returns-in-Ok
 returns-in-Ok c =
     let b = c.args.self.now in
     let t = c.in_ok-tested_enrol.ensures.tested in
-    record { called = enrol_put (view b) c.args.qse c.args.load (capacity c.put.new.self) c.get.result c.enrolled-account.result (rows c.put.new.self) c.put.result t.0 c.get.ensures.answer c.enrolled-account.ensures.answer c.in-Ok.is c.put.ensures.answer c.put.ensures.after c.put.ensures.capacity }
+    record { called = enrol_put (view b) c.args.qse c.args.load (capacity c.put.new.self) c.get.result c.enrolled-account.result (rows c.put.new.self) c.put.result t.0 (c.get.ensures.answer b.accounting.1) c.enrolled-account.ensures.answer c.in-Ok.is (c.put.ensures.answer b.accounting.1) (c.put.ensures.after b.accounting.1) c.put.ensures.capacity }
 
 pub returns-in-Err : goal.returns-in-Err
 returns-in-Err c =
     let b = c.args.self.now in
     let t = c.in_ok-tested_enrol.ensures.tested in
-    record { called = enrol_full (view b) c.args.qse c.args.load (capacity c.put.new.self) c.get.result c.enrolled-account.result (rows c.put.new.self) c.put.result _ t.0 c.get.ensures.answer c.enrolled-account.ensures.answer c.in-Err.is c.put.ensures.answer c.put.ensures.after c.put.ensures.capacity }
+    record { called = enrol_full (view b) c.args.qse c.args.load (capacity c.put.new.self) c.get.result c.enrolled-account.result (rows c.put.new.self) c.put.result _ t.0 (c.get.ensures.answer b.accounting.1) c.enrolled-account.ensures.answer c.in-Err.is (c.put.ensures.answer b.accounting.1) (c.put.ensures.after b.accounting.1) c.put.ensures.capacity }

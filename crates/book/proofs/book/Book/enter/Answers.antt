@@ -20,7 +20,7 @@ pub returns-then-is_none : goal.returns-then-is_none
 returns-then-is_none c =
     let b = c.args.self.now in
     let s = view b in
-    let k : known qse_of c.args.qse s.qses ≡ false = sym (ap is_some c.get.ensures.answer) ∙ c.if-is_none.ensures in
+    let k : known qse_of c.args.qse s.qses ≡ false = sym (ap is_some (c.get.ensures.answer b.accounting.1)) ∙ c.if-is_none.ensures in
     record { called = called_refused s _ (enter c.args.resource c.args.qse c.args.class c.args.figures) NotEnrolled (enter_not_enrolled s c.args.resource c.args.qse c.args.class c.args.figures c.in_ok-class.ensures.tested.0 k) refl }
 
 -- the row that is put is sound, so the table of resources stays so, as large as it was
@@ -28,22 +28,22 @@ pub invariant_of-self : goal.invariant_of-self
 invariant_of-self c =
     let b = c.args.self.now in
     let r = entered_sound (view b) c.args.resource c.args.qse c.args.class c.args.figures c.in_ok-class.class c.in_ok-class.ensures.tested.0 in
-    record { accounting = b.accounting; resourcing = (c.put.ensures.sound b.resourcing r).2; keeping = b.keeping; few_qses = b.few_qses; few_resources = rw c.put.ensures.capacity b.few_resources }
+    record { accounting = b.accounting; resourcing = c.put.ensures.sound b.resourcing r; keeping = b.keeping; few_qses = b.few_qses; few_resources = rw c.put.ensures.capacity b.few_resources }
 
 pub returns-in-Ok : goal.returns-in-Ok
 returns-in-Ok c =
     let b = c.args.self.now in
     let s = view b in
     let t = c.in_ok-class.ensures.tested in
-    let k : known qse_of c.args.qse s.qses ≡ true = sym (ap is_some c.get.ensures.answer) ∙ c.if-is_none.ensures in
-    let o = went_ok _ _ _ _ c.in-Ok.ensures.answer in
-    record { called = called_granted s _ (enter c.args.resource c.args.qse c.args.class c.args.figures) done (enter_granted s c.args.resource c.args.qse c.args.class c.args.figures t.0 k o) refl (with_table_lem s _ _ _ c.put.ensures.capacity (c.put.ensures.after ∙ cond-true _ _ _ o) ∙ enter_carried s c.args.resource c.args.qse c.args.class c.args.figures c.in_ok-class.class t.1) }
+    let k : known qse_of c.args.qse s.qses ≡ true = sym (ap is_some (c.get.ensures.answer b.accounting.1)) ∙ c.if-is_none.ensures in
+    let o = went_ok _ _ _ _ (c.in-Ok.ensures.answer b.resourcing.1) in
+    record { called = called_granted s _ (enter c.args.resource c.args.qse c.args.class c.args.figures) done (enter_granted s c.args.resource c.args.qse c.args.class c.args.figures t.0 k o) refl (with_table_lem s _ _ _ c.put.ensures.capacity (c.put.ensures.after b.resourcing.1 ∙ cond-true _ _ _ o) ∙ enter_carried s c.args.resource c.args.qse c.args.class c.args.figures c.in_ok-class.class t.1) }
 
 pub returns-in-Err : goal.returns-in-Err
 returns-in-Err c =
     let b = c.args.self.now in
     let s = view b in
     let t = c.in_ok-class.ensures.tested in
-    let k : known qse_of c.args.qse s.qses ≡ true = sym (ap is_some c.get.ensures.answer) ∙ c.if-is_none.ensures in
-    let o = went_err _ _ _ _ c.in-Err.ensures.answer in
-    record { called = called_refused s _ (enter c.args.resource c.args.qse c.args.class c.args.figures) NoFreeSlot (enter_no_slot s c.args.resource c.args.qse c.args.class c.args.figures t.0 k o) (with_table_lem s _ _ s.resources c.put.ensures.capacity (c.put.ensures.after ∙ cond-false _ _ _ o)) }
+    let k : known qse_of c.args.qse s.qses ≡ true = sym (ap is_some (c.get.ensures.answer b.accounting.1)) ∙ c.if-is_none.ensures in
+    let o = went_err _ _ _ _ (c.in-Err.ensures.answer b.resourcing.1) in
+    record { called = called_refused s _ (enter c.args.resource c.args.qse c.args.class c.args.figures) NoFreeSlot (enter_no_slot s c.args.resource c.args.qse c.args.class c.args.figures t.0 k o) (with_table_lem s _ _ s.resources c.put.ensures.capacity (c.put.ensures.after b.resourcing.1 ∙ cond-false _ _ _ o)) }

@@ -27,7 +27,7 @@ pub returns-in_default : goal.returns-in_default
 returns-in_default c =
     let b = c.args.self.now in
     let t = c.in_ok-service.ensures.tested in
-    record { called = called_refused (view b) _ (quantities c.args.qse c.args.service c.args.bare) NotEnrolled (quantities_unknown (view b) c.args.qse c.args.service c.args.bare c.get.result t.0 c.get.ensures.answer c.in_default.is) refl }
+    record { called = called_refused (view b) _ (quantities c.args.qse c.args.service c.args.bare) NotEnrolled (quantities_unknown (view b) c.args.qse c.args.service c.args.bare c.get.result t.0 (c.get.ensures.answer b.accounting.1) c.in_default.is) refl }
 
 -- the account that is put
 given : (v : Service) (ten : BareQuantities) (q : ByService BareQuantities) (a : Account) → q ≡ with_service v ten a.row.quantities → record { row = record { number = a.row.number; load = a.row.load; quantities = q }; settled = a.settled; billed = a.billed; line = a.line } ≡ with_quantities v ten a
@@ -39,11 +39,11 @@ invariant_of-self c =
     let t = c.in_ok-service.ensures.tested in
     let a = c.in-Some.account in
     let v = c.in_ok-service.service in
-    let found = c.get.ensures.answer in
+    let found = c.get.ensures.answer b.accounting.1 in
     let made = given v c.args.bare c.set.new.self a c.set.ensures.after in
-    let sound = supplied_sound c.args.qse v c.args.bare (rows b.accounts) c.get.result a found c.in-Some.is b.accounting t.1.1 in
+    let sound = supplied_sound c.args.qse v c.args.bare (rows b.accounts) c.get.result a found c.in-Some.is b.accounting.2 t.1.1 in
     let kept = supplied_kept c.args.qse v c.args.bare (rows b.accounts) c.get.result a found c.in-Some.is b.keeping sound in
-    record { accounting = (c.put.ensures.sound b.accounting (ap account_sound made ∙ sound)).2; resourcing = b.resourcing; keeping = put_kept _ _ (rows b.accounts) _ c.put.ensures.after b.keeping (ap account_kept made ∙ kept); few_qses = omega (arith, c.put.ensures.capacity, b.few_qses); few_resources = b.few_resources }
+    record { accounting = c.put.ensures.sound b.accounting (ap account_sound made ∙ sound); resourcing = b.resourcing; keeping = put_kept _ _ (rows b.accounts) _ (c.put.ensures.after b.accounting.1) b.keeping (ap account_kept made ∙ kept); few_qses = omega (arith, c.put.ensures.capacity, b.few_qses); few_resources = b.few_resources }
 
 pub returns : goal.returns
 returns c =
@@ -51,4 +51,4 @@ returns c =
     let t = c.in_ok-service.ensures.tested in
     let a = c.in-Some.account in
     let v = c.in_ok-service.service in
-    record { called = quantities_put (view b) c.args.qse c.args.service (capacity c.put.new.self) v c.args.bare c.get.result a _ (rows c.put.new.self) t.0 t.1.0 c.get.ensures.answer c.in-Some.is (given v c.args.bare c.set.new.self a c.set.ensures.after) c.put.ensures.after c.put.ensures.capacity }
+    record { called = quantities_put (view b) c.args.qse c.args.service (capacity c.put.new.self) v c.args.bare c.get.result a _ (rows c.put.new.self) t.0 t.1.0 (c.get.ensures.answer b.accounting.1) c.in-Some.is (given v c.args.bare c.set.new.self a c.set.ensures.after) (c.put.ensures.after b.accounting.1) c.put.ensures.capacity }

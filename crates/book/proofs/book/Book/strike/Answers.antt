@@ -20,13 +20,13 @@ returns-in-Ok c =
     let b = c.args.self.now in
     let n = c.args.resource in
     let s = view b in
-    let k = went_ok _ _ _ _ c.in-Ok.ensures.answer in
-    record { called = called_granted s _ (strike n) done (strike_granted s n c.in_ok-tested_strike.ensures.tested.0 k) refl (with_table_lem s _ _ _ c.remove.ensures.capacity c.remove.ensures.after) }
+    let k = went_ok _ _ _ _ (c.in-Ok.ensures.answer b.resourcing.1) in
+    record { called = called_granted s _ (strike n) done (strike_granted s n c.in_ok-tested_strike.ensures.tested.0 k) refl (with_table_lem s _ _ _ c.remove.ensures.capacity (c.remove.ensures.after b.resourcing.1)) }
 
 pub returns-in-Err : goal.returns-in-Err
 returns-in-Err c =
     let b = c.args.self.now in
     let n = c.args.resource in
     let s = view b in
-    let k = went_err _ _ _ _ c.in-Err.ensures.answer in
-    record { called = called_refused s _ (strike n) NoSuchResource (strike_absent s n c.in_ok-tested_strike.ensures.tested.0 k) (with_table_lem s _ _ s.resources c.remove.ensures.capacity (c.remove.ensures.after ∙ removed_absent resource_of n s.resources k)) }
+    let k = went_err _ _ _ _ (c.in-Err.ensures.answer b.resourcing.1) in
+    record { called = called_refused s _ (strike n) NoSuchResource (strike_absent s n c.in_ok-tested_strike.ensures.tested.0 k) (with_table_lem s _ _ s.resources c.remove.ensures.capacity (c.remove.ensures.after b.resourcing.1 ∙ removed_absent resource_of n s.resources k)) }

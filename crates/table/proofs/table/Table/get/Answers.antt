@@ -14,9 +14,11 @@ returns g c =
     let held = rows c.args.self.now in
     let i = c.in_ok-there.there in
     let e = c.as_slice-held.ensures.answer in
-    let up = rw e at c.as_slice-held.ensures.rising in
     let at : c.locate.result ≡ Ok i = grind (arith, common_steps, c.in_ok-there.ensures.value) in
     let l : i < length c.as_slice-held.result.now = grind (arith, common_steps, c.locate.ensures.within) in
     let read = slice_get_read c.as_slice-held.result.now _ i c.index-held-there.result refl l c.index-held-there.is in
-    let f = found_at num n held i up (placed num c.as_slice-held.result.now held n n c.locate.result e refl c.locate.ensures.answer up ∙ at) in
-    record { answer = cc }
+    record {
+      answer = λ up.
+          let f = found_at num n held i up (placed num c.as_slice-held.result.now held n n c.locate.result e refl c.locate.ensures.answer up ∙ at) in
+          cc;
+    }

@@ -1,5 +1,5 @@
 // A group as words: a head, then its data, in the feed's order.
-ghost use Rattle.std.specs.Prelude.{◌≡◌, ◌≤◌, length};
+ghost use Rattle.std.specs.Prelude.{◌≡◌, ◌≤◌, length, take};
 ghost use Rattle.terms.specs.Services.{service_number};
 ghost use Rattle.feed.specs.Heads.{kind_number};
 ghost use Rattle.packing.specs.Packing.{head_word, call_of_group, words_of_call, ReadAs};
@@ -7,12 +7,25 @@ ghost use Rattle.packing.specs.Whole.{ReadInTurn, TakenWhole};
 
 use crate::figure::Figure;
 use crate::group::Group;
-use arrayvec::ArrayVec;
 use feed::head::Kind;
 use terms::service::Service;
 
-// The words of a group, of which none has more than twelve.
-pub type GroupWords = ArrayVec<u32, 12>;
+// The words of a group: the first `count`. A struct, since the kit's fixed-room vectors are not `Copy`.
+#[derive(Clone, Copy)]
+pub struct GroupWords {
+    words: [u32; 12],
+    count: usize,
+    ghost within: { count ≤ 12 },
+}
+
+impl GroupWords {
+    // These words.
+    pub fn as_slice(&self) -> &[u32]
+        ensures answer { result.now ≡ take self.now.count self.now.words }
+    {
+        &self.words[0..self.count]
+    }
+}
 
 // The number that stands for a service in a feed.
 impl From<Service> for Figure {
@@ -35,20 +48,22 @@ fn head(kind: Kind, value: Figure) -> u32
 // These words.
 fn words(words: &[u32]) -> GroupWords
     requires few { length words.now ≤ 12 }
-    ensures answer { result.items ≡ words.now }
+    ensures answer { take result.count result.words ≡ words.now }
 {
-    let mut made = ArrayVec::new();
-    // never refused, since there is room for twelve
-    let _ = made.try_extend_from_slice(words);
-    made
+    let mut made = [0; 12];
+    made[..words.len()].copy_from_slice(words);
+    GroupWords {
+        words: made,
+        count: words.len(),
+    }
 }
 
 // The words of a group. The feed reads them as the group's call, wherever they stand, and the words of many groups as
 // their calls in turn.
 #[tactic(auto, using(crate::proofs::Feeds::read_in_turn, crate::proofs::Feeds::taken_whole))]
 pub fn packed(group: &Group) -> GroupWords
-    ensures words { result.items ≡ words_of_call (call_of_group group.now) }
-    ensures read { ReadAs (call_of_group group.now) result.items }
+    ensures words { take result.count result.words ≡ words_of_call (call_of_group group.now) }
+    ensures read { ReadAs (call_of_group group.now) (take result.count result.words) }
     ensures turns { ReadInTurn }
     ensures whole { TakenWhole }
 {

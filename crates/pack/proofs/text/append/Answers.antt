@@ -10,4 +10,4 @@ loop-word-preserved c =
 
 pub returns : goal.returns
 returns c =
-    record { appended = c.loop-word.invariant ∙ ap (λ (ws : List ℕ). vec_items c.args.bytes.now ++ bytes_of ws) (take_all _ _ c.loop-word-test.false ∙ c.as_slice-word-items.ensures.value ∙ c.packed-words.ensures.words) }
+    record { appended = c.loop-word.invariant ∙ ap (λ (ws : List ℕ). vec_items c.args.bytes.now ++ bytes_of ws) (take_all _ _ c.loop-word-test.false ∙ c.as_slice-word-items.ensures.answer ∙ c.packed-words.ensures.words) }

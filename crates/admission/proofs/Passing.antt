@@ -38,3 +38,11 @@ last_holds b r later e = ap (λ b. unless b r later) e
 
 pub last_fails : (b : Bool) (r : Refusal) (later : Option Refusal) → b ≡ false → unless b r later ≡ Some r
 last_fails b r later e = ap (λ b. unless b r later) e
+
+pub said_err : {A E : Type 0} (b : Bool) (y : A) (d e : E) → ◌≡◌ {A = Result A E} (Err d) (cond b (Ok y) (Err e)) → d ≡ e
+said_err true y d e p = absurd (let z : ◌≡◌ {A = ℕ} 0 1 = cc in omega arith)
+said_err false y d e p = cc
+
+-- where only the last of three tests fails, it refuses
+pub third_refuses : (a b d : Bool) (p q r x : Refusal) → a ≡ true → b ≡ true → d ≡ false → x ≡ r → unless a p (unless b q (unless d r None)) ≡ Some x
+third_refuses a b d p q r x e f g h = rw (e, f, g, h)

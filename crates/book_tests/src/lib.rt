@@ -20,6 +20,8 @@ mod settings;
 #[cfg(test)]
 mod shown;
 #[cfg(test)]
+mod tables;
+#[cfg(test)]
 mod two_books;
 #[cfg(test)]
 mod worked_hour;

@@ -63,9 +63,15 @@ module _ {R : Type 0} (num : R → ℕ) where
   pub holds_none : (n : ℕ) (o : Option R) → o ≡ None → holds num n o ≡ false
   holds_none n o e = grind arith
 
+  pub rising_from_put : (rows on : List R) (x : R) → on ≡ put num x rows → Rising num rows → Rising num on
+  rising_from_put rows on x e up = rw e (rising_put num x rows up)
+
+  pub rising_from_removed : (rows on : List R) (n : ℕ) → on ≡ removed num n rows → Rising num rows → Rising num on
+  rising_from_removed rows on n e up = rw e (rising_removed num n rows up)
+
 module _ {R : Type 0} (num : R → ℕ) (sound : R → Bool) where
   pub sound_from_put : (rows on : List R) (x : R) → on ≡ put num x rows → Rising num rows → AllSound sound rows → sound x ≡ true → Rising num on × AllSound sound on
-  sound_from_put rows on x e up a p = rw e (rising_put num x rows up, sound_put num sound x rows p a)
+  sound_from_put rows on x e up a p = (rising_from_put num rows on x e up, rw e (sound_put num sound x rows p a))
 
   pub sound_from_removed : (rows on : List R) (n : ℕ) → on ≡ removed num n rows → Rising num rows → AllSound sound rows → Rising num on × AllSound sound on
-  sound_from_removed rows on n e up a = rw e (rising_removed num n rows up, sound_removed num sound n rows a)
+  sound_from_removed rows on n e up a = (rising_from_removed num rows on n e up, rw e (sound_removed num sound n rows a))

@@ -18,7 +18,11 @@ capacity t = length t.slots.now
 abbrev pub Within : {R : Type 0} → Table R → Type 0
 Within t = t.len ≤ capacity t
 
--- what a table keeps: its rows lie within its slots, their numbers rise, and each is sound
+-- what a table keeps whatever its rows' figures: they lie within its slots, and their numbers rise
+abbrev pub InOrder : {R : Type 0} → (R → ℕ) → Table R → Type 0
+InOrder num t = Within t × Rising num (rows t)
+
+-- what a table of sound rows keeps: its rows lie within its slots, their numbers rise, and each is sound
 abbrev pub Sound : {R : Type 0} → (R → ℕ) → (R → Bool) → Table R → Type 0
 Sound num sound t = Within t × Rising num (rows t) × AllSound sound (rows t)
 

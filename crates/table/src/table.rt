@@ -4,7 +4,7 @@
 ghost use Rattle.std.specs.Prelude.{◌≡◌, ◌-◌, ◌≤◌, min, true, [], map, length, if◌then◌else◌, Some, None, Ok, Err, IfSome};
 ghost use Rattle.std.specs.List.{slice_get};
 ghost use Rattle.table.specs.Rows.{Rising, AllSound, found, known, rank, holds, fits, put, removed, revised};
-ghost use Rattle.table.specs.Tables.{rows, capacity, Sound, full, absent, misplaced};
+ghost use Rattle.table.specs.Tables.{rows, capacity, InOrder, Sound, full, absent, misplaced};
 
 use crate::numbered::Numbered;
 use crate::revision::Revision;
@@ -102,6 +102,7 @@ impl<'a, R: Numbered> Table<'a, R> {
     pub fn put(&mut self, row: R) -> Result<(), Full>
         ensures answer { Rising R.Numbered.number (rows self.old) → result ≡ (if fits R.Numbered.number (capacity self.old) (R.Numbered.number row) (rows self.old) then Ok tt else Err full) }
         ensures after { Rising R.Numbered.number (rows self.old) → rows self.new ≡ (if fits R.Numbered.number (capacity self.old) (R.Numbered.number row) (rows self.old) then put R.Numbered.number row (rows self.old) else rows self.old) }
+        ensures order { InOrder R.Numbered.number self.old → InOrder R.Numbered.number self.new }
         ensures sound { Sound R.Numbered.number R.Numbered.sound self.old → R.Numbered.sound row ≡ true → Sound R.Numbered.number R.Numbered.sound self.new }
         ensures capacity { capacity self.new ≡ capacity self.old }
     {
@@ -125,6 +126,7 @@ impl<'a, R: Numbered> Table<'a, R> {
     pub fn remove(&mut self, number: u32) -> Result<(), Absent>
         ensures answer { Rising R.Numbered.number (rows self.old) → result ≡ (if known R.Numbered.number number (rows self.old) then Ok tt else Err absent) }
         ensures after { Rising R.Numbered.number (rows self.old) → rows self.new ≡ removed R.Numbered.number number (rows self.old) }
+        ensures order { InOrder R.Numbered.number self.old → InOrder R.Numbered.number self.new }
         ensures sound { Sound R.Numbered.number R.Numbered.sound self.old → Sound R.Numbered.number R.Numbered.sound self.new }
         ensures capacity { capacity self.new ≡ capacity self.old }
     {
@@ -142,6 +144,7 @@ impl<'a, R: Numbered> Table<'a, R> {
     pub fn update(&mut self, place: usize, row: R) -> Result<(), Misplaced>
         ensures answer { result ≡ (if holds R.Numbered.number (R.Numbered.number row) (slice_get (rows self.old) place) then Ok tt else Err misplaced) }
         ensures after { Rising R.Numbered.number (rows self.old) → rows self.new ≡ (if holds R.Numbered.number (R.Numbered.number row) (slice_get (rows self.old) place) then put R.Numbered.number row (rows self.old) else rows self.old) }
+        ensures order { InOrder R.Numbered.number self.old → InOrder R.Numbered.number self.new }
         ensures sound { Sound R.Numbered.number R.Numbered.sound self.old → R.Numbered.sound row ≡ true → Sound R.Numbered.number R.Numbered.sound self.new }
         ensures capacity { capacity self.new ≡ capacity self.old }
     {
@@ -157,7 +160,8 @@ impl<'a, R: Numbered> Table<'a, R> {
     pub fn revise<V: Revision<R>>(&mut self, revision: &V)
         ensures after { AllSound R.Numbered.sound (rows self.old) → rows self.new ≡ revised (V.Revision.revised revision.now) 0 (rows self.old) }
         ensures numbers { map R.Numbered.number (rows self.new) ≡ map R.Numbered.number (rows self.old) }
-        ensures sound { Sound R.Numbered.number R.Numbered.sound self.old → AllSound R.Numbered.sound (rows self.new) → Sound R.Numbered.number R.Numbered.sound self.new }
+        ensures order { InOrder R.Numbered.number self.old → InOrder R.Numbered.number self.new }
+        ensures sound { InOrder R.Numbered.number self.old → AllSound R.Numbered.sound (rows self.new) → Sound R.Numbered.number R.Numbered.sound self.new }
         ensures capacity { capacity self.new ≡ capacity self.old }
     {
         let used = self.len();

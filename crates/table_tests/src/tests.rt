@@ -1,8 +1,9 @@
 // What a table does on examples, over both kinds of row.
 use crate::ledger::Ledger;
 use crate::meter::Meter;
+use crate::roll::Roll;
 use crate::station::Station;
-use table::Table;
+use table::{Absent, Full, Misplaced, Table};
 
 fn meter(number: u32, reading: u32) -> Meter {
     Meter { number, reading }
@@ -138,4 +139,32 @@ fn a_ledger_keeps_readings_of_four_digits(rt: HostRuntime) {
     assert_eq!(rt; ledger.meter(5), Some(meter(5, 0)));
     assert!(rt; ledger.withdraw(5).is_ok());
     assert_eq!(rt; ledger.meter(5), None);
+}
+
+#[test]
+fn a_roll_keeps_its_order_whatever_its_meters_read(rt: HostRuntime) {
+    let mut slots = [meter(0, 0); 3];
+    let mut roll = Roll::new(&mut slots, 2);
+    let entered = [
+        roll.enter(meter(9, 12_345)),
+        roll.enter(meter(4, 7)),
+        roll.enter(meter(6, 1)),
+    ];
+    assert_eq!(rt; entered, [Ok(()), Ok(()), Err(Full)]);
+    let corrected = [
+        roll.correct(0, meter(4, 20_008)),
+        roll.correct(1, meter(4, 1)),
+    ];
+    assert_eq!(rt; corrected, [Ok(()), Err(Misplaced)]);
+    assert_eq!(rt;
+        roll.meters.as_slice(),
+        [meter(4, 20_008), meter(9, 12_345)].as_slice()
+    );
+    assert!(rt; roll.show());
+    assert_eq!(rt;
+        roll.meters.as_slice(),
+        [meter(4, 8), meter(9, 2_345)].as_slice()
+    );
+    assert_eq!(rt; [roll.withdraw(9), roll.withdraw(9)], [Ok(()), Err(Absent)]);
+    assert_eq!(rt; roll.meters.as_slice(), [meter(4, 8)].as_slice());
 }

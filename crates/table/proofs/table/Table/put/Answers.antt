@@ -3,7 +3,7 @@ use Rattle.std.proofs.Common.{◌≡◌, ◌+◌, ◌<◌, true, false, length, 
 use Rattle.std.proofs.lemmas.Bool.{cond-true, cond-false}
 use Rattle.table.specs.Rows.{Rising, located, fits, put}
 use Rattle.table.specs.Tables.{rows, capacity}
-use Rattle.table.proofs.Calls.{placed, fits_known, fits_free, fits_full, overwritten, entered, sound_from_put}
+use Rattle.table.proofs.Calls.{placed, fits_known, fits_free, fits_full, overwritten, entered, rising_from_put, sound_from_put}
 use Rattle.table.proofs.table.Table.put.Goals as goal
 
 pub returns-in-Ok : goal.returns-in-Ok
@@ -19,6 +19,7 @@ returns-in-Ok g c =
     record {
       answer = λ up. sym (cond-true _ _ _ (fit up));
       after = λ up. on up ∙ sym (cond-true _ _ _ (fit up));
+      order = λ o. (omega (arith, o.0, kept), rising_from_put num (rows t) _ x (on o.1) o.1);
       sound = λ s p. let q = sound_from_put num g.R.Numbered.sound (rows t) _ x (on s.1) s.1 s.2 p in (omega arith, q.0, q.1);
       capacity = kept;
     }
@@ -34,6 +35,7 @@ returns-then-used-most g c =
     record {
       answer = λ up. sym (cond-false _ _ _ (unfit up));
       after = λ up. sym (cond-false _ _ _ (unfit up));
+      order = λ o. o;
       sound = λ s _. s;
       capacity = refl;
     }
@@ -53,6 +55,7 @@ returns-else-used-most g c =
     record {
       answer = λ _. sym (cond-true _ _ _ fit);
       after = λ up. on up ∙ sym (cond-true _ _ _ fit);
+      order = λ o. (omega (arith, o.0, kept), rising_from_put num (rows t) _ x (on o.1) o.1);
       sound = λ s p. let q = sound_from_put num g.R.Numbered.sound (rows t) _ x (on s.1) s.1 s.2 p in (omega arith, q.0, q.1);
       capacity = kept;
     }

@@ -3,7 +3,7 @@ use Rattle.std.proofs.Common.{◌≡◌, ◌-◌, length, take, Ok, Err, sym, re
 use Rattle.std.proofs.lemmas.Bool.{cond-true, cond-false}
 use Rattle.table.specs.Rows.{Rising, located, removed}
 use Rattle.table.specs.Tables.{rows, capacity}
-use Rattle.table.proofs.Calls.{placed, struck, sound_from_removed}
+use Rattle.table.proofs.Calls.{placed, struck, rising_from_removed, sound_from_removed}
 use Rattle.table.proofs.Laws.{removed_absent}
 use Rattle.table.proofs.Places.{known_from_ok, new_from_err}
 use Rattle.table.proofs.table.Table.remove.Goals as goal
@@ -21,6 +21,7 @@ returns g c =
     record {
       answer = λ up. sym (cond-true _ _ _ (known_from_ok num n (rows t) i (at up)).0);
       after = on;
+      order = λ o. (omega (arith, o.0, kept), rising_from_removed num (rows t) _ n (on o.1) o.1);
       sound = λ s. let q = sound_from_removed num g.R.Numbered.sound (rows t) _ n (on s.1) s.1 s.2 in (omega arith, q.0, q.1);
       capacity = kept;
     }
@@ -35,6 +36,7 @@ returns-in_default g c =
     record {
       answer = λ up. sym (cond-false _ _ _ (new_from_err num n (rows t) i (at up)).0);
       after = λ up. sym (removed_absent num n (rows t) (new_from_err num n (rows t) i (at up)).0);
+      order = λ o. o;
       sound = λ s. s;
       capacity = refl;
     }

@@ -5,7 +5,7 @@ use Rattle.std.proofs.lemmas.Bool.{cond-true, cond-false}
 use Rattle.std.specs.List.{slice_get}
 use Rattle.table.specs.Rows.{Rising, holds, put}
 use Rattle.table.specs.Tables.{rows, capacity}
-use Rattle.table.proofs.Calls.{overwritten, in_use, in_use_located, holds_same, holds_other, holds_none, sound_from_put}
+use Rattle.table.proofs.Calls.{overwritten, in_use, in_use_located, holds_same, holds_other, holds_none, rising_from_put, sound_from_put}
 use Rattle.table.proofs.table.Table.update.Goals as goal
 use Rattle.table.proofs.table.Table.update.Goals.{else-place-len-via-then-place-len+else-key, else-place-len-via-else-place-len}
 
@@ -24,6 +24,7 @@ returns-then-key g c =
     record {
       answer = sym (cond-true _ _ _ stands);
       after = λ up. on up ∙ sym (cond-true _ _ _ stands);
+      order = λ o. (omega (arith, o.0, kept), rising_from_put num (rows t) _ x (on o.1) o.1);
       sound = λ s p. let q = sound_from_put num g.R.Numbered.sound (rows t) _ x (on s.1) s.1 s.2 p in (omega arith, q.0, q.1);
       capacity = kept;
     }
@@ -42,6 +43,7 @@ returns-else-place-len g c =
     record {
       answer = sym (cond-false _ _ _ fails);
       after = λ _. sym (cond-false _ _ _ fails);
+      order = λ o. o;
       sound = λ s _. s;
       capacity = refl;
     }

@@ -18,7 +18,7 @@ capacity t = length t.slots.now
 abbrev pub Within : {R : Type 0} → Table R → Type 0
 Within t = t.len ≤ capacity t
 
--- what a table keeps whatever its rows' figures: they lie within its slots, and their numbers rise
+-- what a table keeps whatever the figures of its rows: the rows lie within its slots, and their numbers rise
 abbrev pub InOrder : {R : Type 0} → (R → ℕ) → Table R → Type 0
 InOrder num t = Within t × Rising num (rows t)
 

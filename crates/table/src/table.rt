@@ -1,6 +1,7 @@
 // A table of rows over the caller's slots. The first `len` slots hold the rows, in rising order of number;
 // what the others hold is never read. No call asks anything of its caller: what holds only where the rows rise is
-// promised under that premise, and a struct around the table keeps it (`Sound`) as a fact of its own.
+// promised under that premise, and a struct around the table keeps it as a fact of its own (`Sound`, or `InOrder` where
+// figures may be any).
 ghost use Rattle.std.specs.Prelude.{◌≡◌, ◌-◌, ◌≤◌, min, true, [], map, length, if◌then◌else◌, Some, None, Ok, Err, IfSome};
 ghost use Rattle.std.specs.List.{slice_get};
 ghost use Rattle.table.specs.Rows.{Rising, AllSound, found, known, rank, holds, fits, put, removed, revised};

@@ -5,7 +5,7 @@
 pub mod calls;
 pub mod ledger;
 pub mod meter;
-pub mod roll;
+mod roll;
 pub mod station;
 #[cfg(test)]
 mod tests;

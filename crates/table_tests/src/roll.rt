@@ -1,5 +1,5 @@
-// Meters in rising order of number, whatever they read: a roll keeps what a table keeps of its own, and no limit of a reading.
-ghost use Rattle.std.specs.Prelude.{◌≡◌, true, [], map, if◌then◌else◌, Ok, Err};
+// Meters in rising order of number, whatever they read: a roll keeps what a table keeps of its own, and no limit.
+ghost use Rattle.std.specs.Prelude.{◌≡◌, ◌↔◌, IsTrue, [], map, if◌then◌else◌, Ok, Err};
 ghost use Rattle.std.specs.List.{slice_get};
 ghost use Rattle.table.specs.Rows.{AllSound, fits, known, holds, put, removed};
 ghost use Rattle.table.specs.Tables.{InOrder, Sound, rows, capacity, full, absent, misplaced};
@@ -9,8 +9,8 @@ use crate::meter::Meter;
 use table::{Absent, Full, Misplaced, Revision, Table};
 
 #[derive(Drop)]
-pub struct Roll<'a> {
-    pub meters: Table<'a, Meter>,
+pub(crate) struct Roll<'a> {
+    pub(crate) meters: Table<'a, Meter>,
     ghost ordered: { InOrder meter_number meters },
 }
 
@@ -28,14 +28,14 @@ impl Revision<Meter> for Showing {
 
 // Whether every meter has four digits.
 fn all_show(meters: &[Meter]) -> bool
-    ensures answer { result ≡ true → AllSound meter_sound meters.now }
+    ensures answer { IsTrue result ↔ AllSound meter_sound meters.now }
 {
     meters.iter().all(|meter| meter.reading <= 9999)
 }
 
 impl<'a> Roll<'a> {
     // An empty roll with room for at most `limit` meters.
-    pub fn new(slots: &'a mut [Meter], limit: usize) -> Roll<'a>
+    pub(crate) fn new(slots: &'a mut [Meter], limit: usize) -> Roll<'a>
         ensures after { rows result.meters ≡ [] }
     {
         Roll {
@@ -44,7 +44,7 @@ impl<'a> Roll<'a> {
     }
 
     // Enters a meter, whatever it reads.
-    pub fn enter(&mut self, meter: Meter) -> Result<(), Full>
+    pub(crate) fn enter(&mut self, meter: Meter) -> Result<(), Full>
         ensures answer { result ≡ (if fits meter_number (capacity self.old.meters) meter.number (rows self.old.meters) then Ok tt else Err full) }
         ensures after { rows self.new.meters ≡ (if fits meter_number (capacity self.old.meters) meter.number (rows self.old.meters) then put meter_number meter (rows self.old.meters) else rows self.old.meters) }
     {
@@ -52,7 +52,7 @@ impl<'a> Roll<'a> {
     }
 
     // Puts another reading of the meter at a place, whatever it is.
-    pub fn correct(&mut self, place: usize, meter: Meter) -> Result<(), Misplaced>
+    pub(crate) fn correct(&mut self, place: usize, meter: Meter) -> Result<(), Misplaced>
         ensures answer { result ≡ (if holds meter_number meter.number (slice_get (rows self.old.meters) place) then Ok tt else Err misplaced) }
         ensures after { rows self.new.meters ≡ (if holds meter_number meter.number (slice_get (rows self.old.meters) place) then put meter_number meter (rows self.old.meters) else rows self.old.meters) }
     {
@@ -60,7 +60,7 @@ impl<'a> Roll<'a> {
     }
 
     // Takes the meter of a number out.
-    pub fn withdraw(&mut self, number: u32) -> Result<(), Absent>
+    pub(crate) fn withdraw(&mut self, number: u32) -> Result<(), Absent>
         ensures answer { result ≡ (if known meter_number number (rows self.old.meters) then Ok tt else Err absent) }
         ensures after { rows self.new.meters ≡ removed meter_number number (rows self.old.meters) }
     {
@@ -68,9 +68,9 @@ impl<'a> Roll<'a> {
     }
 
     // Makes of every meter what it shows, and says whether the roll is now a table of sound meters.
-    pub fn show(&mut self) -> bool
+    pub(crate) fn show(&mut self) -> bool
         ensures numbers { map meter_number (rows self.new.meters) ≡ map meter_number (rows self.old.meters) }
-        ensures sound { result ≡ true → Sound meter_number meter_sound self.new.meters }
+        ensures sound { IsTrue result ↔ Sound meter_number meter_sound self.new.meters }
     {
         self.meters.revise(&Showing);
         all_show(self.meters.as_slice())
